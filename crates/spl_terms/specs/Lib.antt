@@ -1,0 +1,4 @@
+pub mod formers
+pub mod Lists
+pub mod Terms
+pub mod Clauses
