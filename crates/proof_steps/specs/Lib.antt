@@ -1,0 +1,4 @@
+pub mod Spots
+pub mod Parts
+pub mod Steps
+pub mod Checked
