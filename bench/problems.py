@@ -1,0 +1,60 @@
+"""Problems in DFG syntax, and the same clauses in TPTP syntax for eprover."""
+import random
+
+HEAD = (
+    "begin_problem(p).\nlist_of_descriptions.\nname({*n*}).\nauthor({*a*}).\n"
+    "status(unknown).\ndescription({*d*}).\nend_of_list.\n"
+)
+
+
+def literal(name, positive, argument):
+    """A literal of a predicate of one argument, in DFG syntax and in TPTP syntax."""
+    atom = f"{name}({argument})"
+    return (atom, atom) if positive else (f"not({atom})", f"~{atom}")
+
+
+def problem(functions, predicates, clauses):
+    """The DFG text and the TPTP text of clauses, each a list of (predicate, positive, argument)."""
+    symbols = ",".join(f"({f},0)" for f in functions)
+    relations = ",".join(f"({p},1)" for p in predicates)
+    dfg = [HEAD, "list_of_symbols.\n", f"functions[{symbols}].\npredicates[{relations}].\n", "end_of_list.\n"]
+    dfg.append("list_of_clauses(axioms,cnf).\n")
+    tptp = []
+    for number, clause in enumerate(clauses, 1):
+        literals = [literal(*parts) for parts in clause]
+        dfg.append(f"clause(or({','.join(d for d, _ in literals)})).\n")
+        tptp.append(f"cnf(c{number},axiom,({' | '.join(t for _, t in literals)})).\n")
+    dfg.append("end_of_list.\nend_problem.\n")
+    return "".join(dfg), "".join(tptp)
+
+
+def chain(links):
+    """r0(c); r0(c) implies r1(c), and so on; not the last one. It has no model."""
+    predicates = [f"r{i}" for i in range(links + 1)]
+    clauses = [[("r0", True, "c")]]
+    clauses += [[(f"r{i}", False, "c"), (f"r{i + 1}", True, "c")] for i in range(links)]
+    clauses.append([(f"r{links}", False, "c")])
+    return problem(["c"], predicates, clauses)
+
+
+def random_clauses(count, atoms, seed):
+    """So many clauses of three literals over different atoms."""
+    source = random.Random(seed)
+    predicates = [f"p{i}" for i in range(atoms)]
+    clauses = []
+    for _ in range(count):
+        chosen = source.sample(predicates, 3)
+        clauses.append([(name, source.random() < 0.5, "c") for name in chosen])
+    return problem(["c"], predicates, clauses)
+
+
+def model_clauses(count, atoms, seed):
+    """Random clauses of three literals that the assignment of all atoms as false satisfies: each has a negative one."""
+    source = random.Random(seed)
+    predicates = [f"p{i}" for i in range(atoms)]
+    clauses = []
+    for _ in range(count):
+        chosen = source.sample(predicates, 3)
+        signs = [False] + [source.random() < 0.5 for _ in range(2)]
+        clauses.append([(name, sign, "c") for name, sign in zip(chosen, signs)])
+    return problem(["c"], predicates, clauses)

@@ -1,0 +1,58 @@
+"""Runs a program on a text and measures the time and the memory that it took."""
+import os
+import resource
+import shutil
+import subprocess
+import tempfile
+import time
+from pathlib import Path
+
+TOP = Path(__file__).resolve().parent.parent
+
+
+def built_program():
+    """The path of the built prover: made by `rt run` in crates/spass."""
+    found = sorted((TOP / "crates" / "spass" / "out").rglob("spass"), key=lambda p: p.stat().st_mtime)
+    found = [p for p in found if p.is_file() and os.access(p, os.X_OK)]
+    return found[-1] if found else None
+
+
+def measure(command, text, seconds):
+    """The first line that the command prints for the text, its seconds and its megabytes; none where it is cut off."""
+    with tempfile.NamedTemporaryFile("w+", suffix=".txt") as given:
+        given.write(text)
+        given.flush()
+        given.seek(0)
+        begin = time.monotonic()
+        child = subprocess.Popen(command, stdin=given, stdout=subprocess.PIPE, stderr=subprocess.DEVNULL)
+        try:
+            out, _ = child.communicate(timeout=seconds)
+        except subprocess.TimeoutExpired:
+            child.kill()
+            child.communicate()
+            return None
+        taken = time.monotonic() - begin
+    return out.decode(errors="replace"), taken
+
+
+def peak_megabytes(command, text):
+    """The largest memory that the command held for the text, in megabytes."""
+    with tempfile.NamedTemporaryFile("w+", suffix=".txt") as given:
+        given.write(text)
+        given.flush()
+        given.seek(0)
+        child = os.fork()
+        if child == 0:
+            null = os.open(os.devnull, os.O_WRONLY)
+            os.dup2(given.fileno(), 0)
+            os.dup2(null, 1)
+            os.dup2(null, 2)
+            os.execvp(command[0], command)
+        _, _, usage = os.wait4(child, 0)
+        return usage.ru_maxrss / 1024
+
+
+def others(dfg, tptp):
+    """The other provers that are installed, each with the text that it reads."""
+    known = [("SPASS", ["SPASS", "-Stdin", "-PGiven=0", "-PProblem=0"], dfg), ("eprover", ["eprover", "--auto", "--silent"], tptp)]
+    return [(name, command, text) for name, command, text in known if shutil.which(command[0])]
