@@ -1,0 +1,30 @@
+-- What contracts see of a source and of a sink in memory.
+use Rattle.std.specs.Prelude.{ℕ, Bool, List, cond, ◌==◌}
+use Rattle.std.specs.List.{list_any}
+use Rattle.outside_io.specs.Outside.{next_count}
+
+-- the numbers of the calls that fail, from 1; how many calls were made; and how many of them failed
+pub record Calls : Type 0 where
+  pub failing : List ℕ
+  pub made : ℕ
+  pub faults : ℕ
+
+-- whether the next call is one that fails
+abbrev pub next_fails : Calls → Bool
+next_fails c = list_any (λ n. n == next_count c.made) c.failing
+
+-- the calls with one more
+abbrev pub one_more : Calls → Calls
+one_more c = record { failing = c.failing; made = next_count c.made; faults = cond (next_fails c) (next_count c.faults) c.faults }
+
+-- the bytes to come, how many a call gives at most, and the calls
+pub record Giving : Type 0 where
+  pub rest : List ℕ
+  pub piece : ℕ
+  pub calls : Calls
+
+-- the bytes taken so far, how many a call takes at most, and the calls
+pub record Taking : Type 0 where
+  pub taken : List ℕ
+  pub piece : ℕ
+  pub calls : Calls

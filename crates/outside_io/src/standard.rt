@@ -1,0 +1,83 @@
+ghost use Rattle.std.specs.Prelude.{◌≡◌, ◌≤◌, None};
+ghost use Rattle.outside_io.specs.Outside.{Rose};
+
+use crate::errors::{Failed, WriteError};
+use crate::traits::{Sink, Source};
+use std::io::{Read, Write};
+
+/// A source over a reader, such as standard input, of whose bytes nothing is told.
+///
+/// Each error of the reader, of whatever kind, is a fault, and is counted.
+#[derive(Drop)]
+pub struct StdSource<R> {
+    inner: R,
+    faults: u64,
+}
+
+impl<R: Read> StdSource<R> {
+    /// A source whose count of faults is 0.
+    pub fn new(inner: R) -> StdSource<R>
+        ensures { ⟦<StdSource<R> as Source>⟧.faults result ≡ 0 }
+    {
+        StdSource { inner, faults: 0 }
+    }
+}
+
+impl<R: Read> Source for StdSource<R> {
+    ghost left = { λ s. None };
+
+    ghost faults = { λ s. s.faults };
+
+    fn read(&mut self, buf: &mut [u8]) -> Result<usize, Failed> {
+        match self.inner.read(buf) {
+            Ok(count) => Ok(count),
+            Err(_) => {
+                count_one(&mut self.faults);
+                Err(Failed)
+            }
+        }
+    }
+}
+
+/// A sink over a writer, such as standard output, of whose bytes nothing is told.
+///
+/// Each error of the writer, of whatever kind, is a fault, and so is a write that takes nothing;
+/// both are counted.
+#[derive(Drop)]
+pub struct StdSink<W> {
+    inner: W,
+    faults: u64,
+}
+
+impl<W: Write> StdSink<W> {
+    /// A sink whose count of faults is 0.
+    pub fn new(inner: W) -> StdSink<W>
+        ensures { ⟦<StdSink<W> as Sink>⟧.faults result ≡ 0 }
+    {
+        StdSink { inner, faults: 0 }
+    }
+}
+
+impl<W: Write> Sink for StdSink<W> {
+    ghost written = { λ s. None };
+
+    ghost faults = { λ s. s.faults };
+
+    fn write(&mut self, piece: &[u8]) -> Result<usize, WriteError> {
+        match self.inner.write(piece) {
+            Ok(count) if count > 0 => Ok(count),
+            _ => {
+                count_one(&mut self.faults);
+                Err(WriteError::Fault)
+            }
+        }
+    }
+}
+
+/// Counts one more fault; the count stays at the last value of `u64` once it is there.
+fn count_one(faults: &mut u64)
+    ensures rose { Rose faults.old faults.new }
+    ensures later { faults.old ≤ faults.new }
+{
+    *faults = faults.saturating_add(1);
+}
