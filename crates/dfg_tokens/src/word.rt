@@ -1,0 +1,177 @@
+//! The words of the grammar.
+
+ghost use Rattle.std.specs.Prelude.{◌≡◌};
+ghost use Rattle.dfg_tokens.specs.Words.{spelling, first_word, word_of};
+
+/// What an identifier means to the grammar, by its spelling. `Plain` is any other identifier.
+#[derive(Clone, Copy, PartialEq, Eq, Debug)]
+pub enum Word {
+    BeginProblem,
+    EndProblem,
+    EndOfList,
+    ListOfDescriptions,
+    ListOfSymbols,
+    ListOfClauses,
+    ListOfDeclarations,
+    ListOfFormulae,
+    ListOfProof,
+    ListOfSettings,
+    ListOfTerms,
+    ListOfSpecialFormulae,
+    ListOfIncludes,
+    Name,
+    Author,
+    Version,
+    Logic,
+    Description,
+    Date,
+    Status,
+    Satisfiable,
+    Unsatisfiable,
+    Unknown,
+    Functions,
+    Predicates,
+    Sorts,
+    Operators,
+    Quantifiers,
+    Translpairs,
+    Axioms,
+    Conjectures,
+    Cnf,
+    Dnf,
+    Clause,
+    Forall,
+    Exists,
+    Not,
+    And,
+    Or,
+    Implies,
+    Implied,
+    Equiv,
+    Equal,
+    True,
+    False,
+    Plain,
+}
+
+const WORDS: [Word; 45] = [
+    Word::BeginProblem,
+    Word::EndProblem,
+    Word::EndOfList,
+    Word::ListOfDescriptions,
+    Word::ListOfSymbols,
+    Word::ListOfClauses,
+    Word::ListOfDeclarations,
+    Word::ListOfFormulae,
+    Word::ListOfProof,
+    Word::ListOfSettings,
+    Word::ListOfTerms,
+    Word::ListOfSpecialFormulae,
+    Word::ListOfIncludes,
+    Word::Name,
+    Word::Author,
+    Word::Version,
+    Word::Logic,
+    Word::Description,
+    Word::Date,
+    Word::Status,
+    Word::Satisfiable,
+    Word::Unsatisfiable,
+    Word::Unknown,
+    Word::Functions,
+    Word::Predicates,
+    Word::Sorts,
+    Word::Operators,
+    Word::Quantifiers,
+    Word::Translpairs,
+    Word::Axioms,
+    Word::Conjectures,
+    Word::Cnf,
+    Word::Dnf,
+    Word::Clause,
+    Word::Forall,
+    Word::Exists,
+    Word::Not,
+    Word::And,
+    Word::Or,
+    Word::Implies,
+    Word::Implied,
+    Word::Equiv,
+    Word::Equal,
+    Word::True,
+    Word::False,
+];
+
+/// How the word is spelled; `Plain` has no spelling of its own, and gives no bytes.
+pub fn spelled(word: Word) -> &'static [u8]
+    ensures { result.now ≡ spelling word }
+{
+    match word {
+        Word::BeginProblem => b"begin_problem",
+        Word::EndProblem => b"end_problem",
+        Word::EndOfList => b"end_of_list",
+        Word::ListOfDescriptions => b"list_of_descriptions",
+        Word::ListOfSymbols => b"list_of_symbols",
+        Word::ListOfClauses => b"list_of_clauses",
+        Word::ListOfDeclarations => b"list_of_declarations",
+        Word::ListOfFormulae => b"list_of_formulae",
+        Word::ListOfProof => b"list_of_proof",
+        Word::ListOfSettings => b"list_of_settings",
+        Word::ListOfTerms => b"list_of_terms",
+        Word::ListOfSpecialFormulae => b"list_of_special_formulae",
+        Word::ListOfIncludes => b"list_of_includes",
+        Word::Name => b"name",
+        Word::Author => b"author",
+        Word::Version => b"version",
+        Word::Logic => b"logic",
+        Word::Description => b"description",
+        Word::Date => b"date",
+        Word::Status => b"status",
+        Word::Satisfiable => b"satisfiable",
+        Word::Unsatisfiable => b"unsatisfiable",
+        Word::Unknown => b"unknown",
+        Word::Functions => b"functions",
+        Word::Predicates => b"predicates",
+        Word::Sorts => b"sorts",
+        Word::Operators => b"operators",
+        Word::Quantifiers => b"quantifiers",
+        Word::Translpairs => b"translpairs",
+        Word::Axioms => b"axioms",
+        Word::Conjectures => b"conjectures",
+        Word::Cnf => b"cnf",
+        Word::Dnf => b"dnf",
+        Word::Clause => b"clause",
+        Word::Forall => b"forall",
+        Word::Exists => b"exists",
+        Word::Not => b"not",
+        Word::And => b"and",
+        Word::Or => b"or",
+        Word::Implies => b"implies",
+        Word::Implied => b"implied",
+        Word::Equiv => b"equiv",
+        Word::Equal => b"equal",
+        Word::True => b"true",
+        Word::False => b"false",
+        Word::Plain => b"",
+    }
+}
+
+/// The first of the words that is spelled so.
+fn find_word(words: &[Word], text: &[u8]) -> Word
+    ensures { result ≡ first_word words.now text.now }
+{
+    for word in words {
+        if spelled(*word) == text {
+            return *word;
+        }
+    }
+    Word::Plain
+}
+
+/// The word of this spelling; `Plain` where no word is spelled so.
+#[tactic(auto, unfolding(crate::specs::Words::word_of))]
+pub fn word_of(text: &[u8]) -> Word
+    ensures { result ≡ word_of text.now }
+{
+    find_word(&WORDS, text)
+}
