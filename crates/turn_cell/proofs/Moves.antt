@@ -11,7 +11,8 @@ use Rattle.atomic_table.proofs.Lists.{set_else, exchanged}
 use Rattle.turn_cell.specs.declared.view.View.{View}
 use Rattle.turn_cell.specs.Lists.{BeginsWith, entries_of, Among, Appends, Continues}
 use Rattle.turn_cell.specs.Rule.{entered, refused, grown, outside, Fits, Holds, Sat, Enters, Stores, Leaves}
-use Rattle.turn_cell.proofs.Lists.{begins_nothing, begins_itself, begins_trans, appends-others, same_there, set_there, each_set}
+use Rattle.turn_cell.proofs.Lists.{begins_nothing, begins_itself, begins_trans, appends-others}
+use Rattle.turn_cell.proofs.Views.{same_there, set_there, each_set}
 
 -- the view in the turn is another than one that is outside
 pub elsewhere : {E G : Type 0} (l : List (View E G)) (at id : ℕ) (v w : View E G) → get_elem? l at ≡ some w → w.inside ≡ true → get_elem? l id ≡ some v → v.inside ≡ false → at ≢ id

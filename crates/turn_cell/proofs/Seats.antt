@@ -14,7 +14,8 @@ use Rattle.turn_cell.specs.Lists.{BeginsWith, entries_of, Among, Continues, HasA
 use Rattle.turn_cell.specs.Seats.{Cell, SeatSeen, new_seat}
 use Rattle.turn_cell.specs.Rule.{AllApart, count_up, first_view, dealt_from, dealt, second, without_second, both, spent_view, Looks, cell_of, seat_seen, others, dealing, Fits, Holds, Sat, Sits}
 use Rattle.turn_cell.proofs.Moves.{elsewhere}
-use Rattle.turn_cell.proofs.Lists.{begins_nothing, begins_itself, begins_shorter, between, among_from, apart_up, among_first, among-append, among_left, apart-append, each_snoc, each_set}
+use Rattle.turn_cell.proofs.Lists.{begins_nothing, begins_itself, begins_shorter, between, among-append, among_left}
+use Rattle.turn_cell.proofs.Views.{among_from, apart_up, among_first, apart-append, each_snoc, each_set}
 
 module _ {T E G : Type 0} (told : T → List E) (by : E → ℕ) (set_of : T → G) (seats : ℕ) where
   abbrev V : Type 0

@@ -24,6 +24,8 @@ pub struct NoCell<T> {
 }
 
 /// One value, of which one seat at a time has the turn. Contracts see a cell as which it is, and its number of seats.
+///
+/// It can't be dropped: `end` alone takes it, and gives the value back.
 pub struct TurnCell<T: Told> {
     table: Table<Option<T>, View<T::Entry, T::Setting>, About<T>, ByTurns<T>, Global>,
 }

@@ -11,8 +11,7 @@ use std::snapshot::Snapshot;
 
 /// The value, for the time of a turn. Contracts see it as a `TurnSeen`: the value, the cell, the number of the seat that has the turn, and the value's list when the turn began.
 ///
-/// A turn that is dropped takes the value along, and no seat has a turn at that cell any more.
-#[derive(Drop)]
+/// It can't be dropped: `leave` alone takes it.
 pub struct Turn<T: Told> {
     pub(crate) value: T,
     // The seat as it was when the turn began, for proofs alone.
