@@ -10,3 +10,6 @@ pub use entry::Entry;
 pub use finished::Finished;
 pub use tally::Tally;
 pub use work::{append_once, enter_at_once, tally_by_turns};
+
+#[cfg(test)]
+mod tests;
