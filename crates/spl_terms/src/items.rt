@@ -39,7 +39,7 @@ impl<T> Items<T> {
         }
     }
 
-    /// An empty list with room for `count` items.
+    /// An empty list with room for `count` items, and no more.
     pub fn with_room(alloc: Global, count: usize) -> Result<Items<T>, AllocError>
         ensures { IfOk result (λ list. list ≡ []) }
     {
