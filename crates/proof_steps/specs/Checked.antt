@@ -1,5 +1,5 @@
 -- Which lists of lines are proofs.
-use Rattle.std.specs.Prelude.{◌≡◌, ℕ, ◌-◌, ◌≤◌, List, [], length, map, take, Option, Some, IsSomeAnd, slice_get, IsTrue}
+use Rattle.std.specs.Prelude.{◌≡◌, ℕ, ◌-◌, ◌≤◌, List, [], length, map, take, Option, Some, IsSomeAnd, slice_get, IsTrue, true}
 use Rattle.std.specs.List.{list_all}
 use Rattle.spl_terms.specs.declared.clause.Part.{Part}
 use Rattle.spl_terms.specs.declared.clause.Clause.{Clause}
@@ -23,6 +23,10 @@ AreByResolution lines = IsTrue (list_all (λ l. is_resolution_rule l.step.rule) 
 -- the line states what its step concludes, in at most 4,096 symbols
 abbrev pub IsConclusion : List Clause → List Statement → Line → Type 0
 IsConclusion input earlier l = (conclude input earlier l.step ≡ Some l.stated) × (clause_symbols l.stated.clause ≤ 4096)
+
+-- and its step is by a rule of resolution
+abbrev pub IsResolved : List Clause → List Statement → Line → Type 0
+IsResolved input earlier l = IsConclusion input earlier l × (is_resolution_rule l.step.rule ≡ true)
 
 -- each line states what its step concludes from the lines before it
 abbrev pub AreConclusions : List Clause → List Line → Type 0

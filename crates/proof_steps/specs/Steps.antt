@@ -16,7 +16,6 @@ use Rattle.spl_terms.specs.declared.clause.PushError.TheVariants.{Big, Memory}
 use Rattle.spl_terms.specs.Clauses.{is_same, is_empty, part_of, clause_symbols, clause_variables, firsts, in_order}
 use Rattle.spl_truth.specs.Truth.{apply}
 use Rattle.spl_truth.specs.Redundancy.{has_equal_sides}
-use Rattle.spl_truth.specs.declared.replace.Subst.{Subst}
 use Rattle.dep_sets.specs.declared.deps.Assumption.{Assumption}
 use Rattle.dep_sets.specs.Assumptions.{contains_assumption, united, without_assumption}
 use Rattle.proof_steps.specs.declared.step.Statement.{Statement}
