@@ -68,6 +68,22 @@ impl Tally {
         Ok(())
     }
 
+    /// Takes all entries off.
+    pub fn clear(&mut self)
+        ensures { self.new ≡ record self.old { entries = [] } }
+    {
+        self.entries.clear();
+        self.greatest = 0;
+    }
+
+    /// Sets the greatest number that an entry may have.
+    pub fn set_limit(&mut self, limit: u64)
+        requires { greatest_of self.old.entries ≤ limit }
+        ensures { self.new ≡ record self.old { limit = limit } }
+    {
+        self.limit = limit;
+    }
+
     /// The entries, the oldest first.
     pub fn entries(&self) -> &[Entry]
         ensures { result.now ≡ self.now.entries }

@@ -107,6 +107,19 @@ fn a_seat_waits_for_the_turn_of_another(rt: HostRuntime) -> Result<(), Fail> {
     Ok(())
 }
 
+#[test]
+fn a_tally_begins_anew(rt: HostRuntime) -> Result<(), Fail> {
+    let mut tally = Tally::new(rt.alloc(), 9);
+    tally.append(1, 9)?;
+    tally.clear();
+    tally.set_limit(5);
+    tally.append(2, 5)?;
+    assert_eq!(rt; tally.entries(), [Entry { seat: 2, number: 5 }].as_slice());
+    assert_eq!(rt; tally.greatest(), 5);
+    assert_eq!(rt; tally.limit(), 5);
+    Ok(())
+}
+
 // Whether the numbers of this seat's entries are 1, 2 and so on, up to `last`.
 fn is_in_order(entries: &[Entry], seat: u64, last: u64) -> bool {
     let mut number = 0u64;
