@@ -1,4 +1,4 @@
-ghost use Rattle.std.specs.Prelude.{◌≡◌, []};
+ghost use Rattle.std.specs.Prelude.{◌≡◌, ◌↔◌, IsTrue, []};
 
 use std::alloc::Global;
 use std::marker::Model;
@@ -38,5 +38,19 @@ impl Deps {
         Deps {
             items: Vec::new(alloc),
         }
+    }
+
+    /// The assumptions, in ascending order.
+    pub fn as_slice(&self) -> &[Assumption]
+        ensures { result.now ≡ self.now }
+    {
+        self.items.as_slice()
+    }
+
+    /// Whether the set has no assumption.
+    pub fn is_empty(&self) -> bool
+        ensures { IsTrue result ↔ (self.now ≡ []) }
+    {
+        self.items.is_empty()
     }
 }
