@@ -1,4 +1,4 @@
-ghost use Rattle.std.specs.Prelude.{◌≡◌, ◌∷◌, ◌<◌, ◌^◌, ◌||◌, ◌&&◌, not, List, [], length, slice_get, IfOk, Some};
+ghost use Rattle.std.specs.Prelude.{◌≡◌, ◌↔◌, IsTrue, ◌∷◌, ◌<◌, ◌^◌, ◌||◌, ◌&&◌, not, List, [], length, slice_get, IfOk, Some};
 ghost use Rattle.dep_sets.specs.declared.deps.Assumption.{Assumption};
 ghost use Rattle.dep_sets.specs.Assumptions.{IsAscending, contains_assumption, deepest_place, is_before, is_same_assumption, united, without_assumption};
 
@@ -56,6 +56,20 @@ impl Deps {
         Deps {
             items: Vec::new(alloc),
         }
+    }
+
+    /// The assumptions, in ascending order.
+    pub fn as_slice(&self) -> &[Assumption]
+        ensures { result.now ≡ self.now }
+    {
+        self.items.as_slice()
+    }
+
+    /// Whether the set has no assumption.
+    pub fn is_empty(&self) -> bool
+        ensures { IsTrue result ↔ (self.now ≡ []) }
+    {
+        self.items.is_empty()
     }
 
     /// The set of this assumption alone.
