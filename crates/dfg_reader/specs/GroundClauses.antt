@@ -1,11 +1,11 @@
 -- The clauses of a problem whose formulas are clauses without variables.
-use Rattle.std.specs.Prelude.{◌≡◌, ◌≤◌, ◌<◌, Bool, true, false, nat_le, if◌then◌else◌, List, [], ◌∷◌, fold, length, Option, Some, None}
+use Rattle.std.specs.Prelude.{◌≡◌, ℕ, ◌<◌, ◌≤◌, Bool, true, false, nat_le, if◌then◌else◌, List, [], ◌∷◌, fold, length, slice_get, Option, Some, None}
 use Rattle.std.specs.List.{flat_map, list_any, list_all}
 use Rattle.spl_terms.specs.declared.atom.Atom.{Atom}
 use Rattle.spl_terms.specs.declared.clause.Part.{Part}
 use Rattle.spl_terms.specs.declared.clause.Part.TheVariants.{Constraint, Antecedent, Succedent}
 use Rattle.spl_terms.specs.declared.clause.Clause.{Clause}
-use Rattle.spl_terms.specs.Clauses.{is_of_sort, with_atom, clause_symbols}
+use Rattle.spl_terms.specs.Clauses.{is_of_sort, with_atom, clause_symbols, in_order}
 use Rattle.dfg_reader.specs.declared.formula.Formula.{Formula, Formula-F, out-Formula}
 use Rattle.dfg_reader.specs.declared.formula.Formula.TheOpen as layer
 use Rattle.dfg_reader.specs.declared.problem.Role.{Role}
@@ -91,3 +91,7 @@ HasLimits entries = are_within_limits (clauses entries) ≡ true
 abbrev pub IsWithin : Option Clause → Clause → Type 0
 IsWithin None c = 4096 < clause_symbols c
 IsWithin (Some found) c = (found ≡ c) × (clause_symbols c ≤ 4096)
+
+-- each clause is in order: no part has two atoms that are the same, and the variables are numbered by first occurrence
+abbrev pub AreInOrder : List Clause → Type 0
+AreInOrder cs = (k : ℕ) (c : Clause) → slice_get cs k ≡ Some c → in_order c ≡ c
