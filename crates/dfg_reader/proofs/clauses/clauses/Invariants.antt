@@ -1,0 +1,8 @@
+use Rattle.std.proofs.Common.{◌≡◌, ◌-◌, length}
+use Rattle.dfg_tokens.specs.declared.word.Word.TheVariants.{EndOfList}
+use Rattle.dfg_reader.specs.Reading.{items}
+use Rattle.dfg_reader.specs.Clauses.{clause_at}
+use Rattle.dfg_reader.proofs.clauses.clauses.Given as goal
+
+abbrev pub invariant-loop : goal.invariant-loop
+invariant-loop l = items EndOfList (clause_at l.bytes l.symbols) (length l.tokens - l.counter) l.read l.rest ≡ items EndOfList (clause_at l.bytes l.symbols) (length l.tokens) l.fn.read l.tokens

@@ -1,0 +1,6 @@
+pub mod Reading
+pub mod Symbols
+pub mod Terms
+pub mod GroundClauses
+pub mod Clauses
+pub mod Problems

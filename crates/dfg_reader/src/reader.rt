@@ -1,0 +1,67 @@
+//! Whole problems.
+
+ghost use Rattle.std.specs.Prelude.{◌≡◌, ◌<◌, ◌^◌, length, IfOk};
+ghost use Rattle.dfg_reader.specs.Reading.{Gives};
+ghost use Rattle.dfg_reader.specs.GroundClauses.{clauses, HasLimits, AreInOrder};
+ghost use Rattle.dfg_reader.specs.Problems.{head_at, problem_at, problem};
+
+use crate::clauses::lists;
+use crate::declarations::Declarations;
+use crate::descriptions::descriptions;
+use crate::fault::InputError;
+use crate::ground_clauses::ReadClauses;
+use crate::marks::{identifier, mark, place, tail, word};
+use crate::problem::Problem;
+use crate::symbols::signature_list;
+use dfg_tokens::{Mark, Token, Word, tokens_of};
+use spl_terms::Items;
+use std::alloc::Global;
+
+/// The head, `begin_problem(id).`
+#[tactic(auto, unfolding(crate::specs::Problems::head_at))]
+fn head(tokens: &[Token]) -> Result<&[Token], InputError>
+    ensures { Gives (λ rest. rest.now) result (head_at tokens.now) }
+{
+    let rest = word(Word::BeginProblem, tokens)?;
+    let rest = mark(Mark::OpenParenthesis, rest)?;
+    let (_, rest) = identifier(rest)?;
+    let rest = mark(Mark::CloseParenthesis, rest)?;
+    mark(Mark::Dot, rest)
+}
+
+/// The problem that the tokens of the bytes spell.
+#[tactic(auto, unfolding(crate::specs::Problems::problem_at))]
+fn problem(alloc: Global, bytes: &[u8], tokens: &[Token]) -> Result<Problem, InputError>
+    ensures given { Gives (λ p. p) result (problem_at bytes.now tokens.now) }
+    ensures limits { IfOk result (λ p. HasLimits p.entries) }
+{
+    let rest = head(tokens)?;
+    let rest = descriptions(rest)?;
+    let mut symbols = Declarations::new(alloc);
+    let rest = signature_list(alloc, bytes, &mut symbols, rest)?;
+    let mut read = ReadClauses::new(alloc);
+    let rest = lists(alloc, bytes, &symbols, &mut read, rest)?;
+    mark(Mark::Dot, tail(rest))?;
+    Ok(Problem {
+        signature: symbols.into_signature(),
+        entries: read.into_entries(),
+        proofs: Items::new(alloc),
+        end_at: place(rest),
+    })
+}
+
+/// The problem that the bytes spell, or their first fault (SPASS Input Syntax 1.5, in the profile of
+/// `docs/grammar.md`).
+///
+/// The bytes are fewer than 2^32. The problem's clauses are at most 65,536 and each has at most 4,096 symbols, as
+/// [`clauses_of`](crate::clauses_of) asks; they are in order: without repeated atoms, and without variables. An error is the first fault from left to right, or want of memory.
+#[tactic(auto, unfolding(crate::specs::Problems::problem))]
+pub fn read_problem(alloc: Global, bytes: &[u8]) -> Result<Problem, InputError>
+    requires { length bytes.now < 2 ^ 32 }
+    ensures exact { Gives (λ p. p) result (problem bytes.now) }
+    ensures limits { IfOk result (λ p. HasLimits p.entries) }
+    ensures ordered { IfOk result (λ p. AreInOrder (clauses p.entries)) }
+{
+    let tokens = tokens_of(alloc, bytes)?;
+    problem(alloc, bytes, tokens.as_slice())
+}
