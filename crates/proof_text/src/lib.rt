@@ -4,8 +4,8 @@
 //! rule; `specs/Texts.antt` has the grammar as one function per kind of thing.
 #![tactic(auto)]
 
-mod lists;
 mod lines;
+mod lists;
 mod words;
 
 pub use lines::print_proof;
