@@ -2,7 +2,7 @@
 ghost use Rattle.std.specs.Prelude.{◌≡◌, ℕ, ◌+◌, ◌*◌, ◌<◌, ◌≤◌, ◌++◌, ◌∷◌, [], true, false, Some, IfOk, OnOk, OnErr, slice_get, vec_len, length};
 ghost use Rattle.std.specs.Thread.{IsSync};
 ghost use Rattle.turn_cell.specs.Lists.{Continues, entries_of, HasAllSeats};
-ghost use Rattle.turn_cell.specs.Seats.{had, new_seat};
+ghost use Rattle.turn_cell.specs.Seats.{had, in_turn, new_seat, turn_of};
 ghost use Rattle.turn_tally.specs.Tallies.{entry, greatest_of, numbered, seat_of};
 ghost use Rattle.turn_tally.specs.Runs.{HasWorked, IsDone};
 
@@ -142,6 +142,9 @@ pub fn enter_at_once<T: Told>(cell: &TurnCell<T>, seat: &mut Seat<T>) -> Turn<T>
     requires cell { seat.old.cell ≡ cell.now }
     requires outside { seat.old.inside ≡ false }
     requires all { HasAllSeats cell.now.seats (had seat.old) }
+    ensures seat { seat.new ≡ in_turn seat.old (T.told result.value) }
+    ensures turn { result ≡ turn_of seat.old result.value (T.told result.value) }
+    ensures setting { seat.old.setting ≡ Some (T.setting result.value) }
     ensures list { Continues T.seat_of (had seat.old) seat.old.seen (T.told result.value) }
 {
     let Some(turn) = cell.try_enter(seat) else {
