@@ -116,10 +116,15 @@ fn keeps_within_the_limit(rt: HostRuntime) -> Result<(), Fail> {
 #[test]
 fn judges_truth(rt: HostRuntime) -> Result<(), Fail> {
     let alloc = rt.alloc();
+    let no_atoms = Items::new(alloc);
     let true_atoms = holds_of(alloc, P, true)?;
     for (part, without, with) in [(0, true, true), (1, true, false), (2, false, true)] {
         let given = unit(alloc, part, true)?;
-        assert_eq!(rt; holds([].as_slice(), &given), without, "without, at {part}");
+        assert_eq!(rt;
+            holds(no_atoms.as_slice(), &given),
+            without,
+            "without, at {part}"
+        );
         assert_eq!(rt;
             holds(true_atoms.as_slice(), &given),
             with,
