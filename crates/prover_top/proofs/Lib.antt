@@ -1,0 +1,4 @@
+pub mod Pieces
+pub mod WordLemmas
+pub mod Causes
+pub mod Clauses

@@ -1,0 +1,5 @@
+pub mod Words
+pub mod Answers
+pub mod Deliveries
+pub mod Outcomes
+pub mod Reports

@@ -1,0 +1,102 @@
+ghost use Rattle.std.specs.Prelude.{◌≡◌, ◌≤◌, map, length, SomeIff};
+ghost use Rattle.std.specs.Str.Parse.{IsNumeral, digits_value};
+ghost use Rattle.std.specs.String.{string_bytes};
+ghost use Rattle.prover_top.specs.Words.{number_of, with_number, with_option, options_of, rounds_of};
+
+/// The options that were given so far.
+#[derive(Clone, Copy, Debug)]
+pub struct Given {
+    /// The limit of rounds.
+    pub rounds: Option<u32>,
+    /// Whether the number of workers was given.
+    pub workers: bool,
+}
+
+/// The value of one to seven ASCII digits.
+#[tactic(auto, using(crate::proofs::WordLemmas::short_value))]
+fn numeral_of(word: &str) -> Option<u32>
+    ensures { SomeIff result (IsNumeral 10 word.now × (length word.now ≤ 7)) (digits_value 10 word.now) }
+{
+    if word.len() > 7 || word.as_bytes().first() == Some(&b'+') {
+        return None;
+    }
+    match word.parse::<u32>() {
+        Ok(number) => Some(number),
+        Err(_) => None,
+    }
+}
+
+#[tactic(auto, using(crate::proofs::WordLemmas::number_from))]
+fn number_of(word: &str) -> Option<u32>
+    ensures { result ≡ number_of word.now }
+{
+    numeral_of(word)
+}
+
+fn with_number(given: Given, option: &str, number: u32) -> Option<Given>
+    ensures { result ≡ with_number given option.now number }
+{
+    if option == "--rounds" {
+        if given.rounds.is_none() && number <= 1_000_000 {
+            return Some(Given {
+                rounds: Some(number),
+                workers: given.workers,
+            });
+        }
+        return None;
+    }
+    if option == "--workers" && number == 1 && !given.workers {
+        return Some(Given {
+            rounds: given.rounds,
+            workers: true,
+        });
+    }
+    None
+}
+
+fn with_option(given: Given, option: &str, value: &str) -> Option<Given>
+    ensures { result ≡ with_option given option.now value.now }
+{
+    match number_of(value) {
+        Some(number) => with_number(given, option, number),
+        None => None,
+    }
+}
+
+fn options(given: Given, words: &[String]) -> Option<Given>
+    ensures { result ≡ options_of given (map string_bytes words.now) }
+{
+    match words {
+        [] => Some(given),
+        [option, rest @ ..] => match rest {
+            [] => None,
+            [value, more @ ..] => match with_option(given, option.as_str(), value.as_str()) {
+                Some(next) => options(next, more),
+                None => None,
+            },
+        },
+    }
+}
+
+/// The limit of rounds, where the words fit: `prove`, then `--rounds` with 0 to 1,000,000 (10,000 where it isn't
+/// given) and `--workers` with 1, each at most once, in any order. `None` exactly where they don't fit.
+pub fn rounds_of(words: &[String]) -> Option<u32>
+    ensures { result ≡ rounds_of (map string_bytes words.now) }
+{
+    let none = Given {
+        rounds: None,
+        workers: false,
+    };
+    match words {
+        [] => None,
+        [command, more @ ..] => {
+            if command.as_str() != "prove" {
+                return None;
+            }
+            match options(none, more) {
+                Some(given) => Some(given.rounds.unwrap_or(10_000)),
+                None => None,
+            }
+        }
+    }
+}
