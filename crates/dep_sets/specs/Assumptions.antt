@@ -1,5 +1,5 @@
 -- Sets of assumptions as lists in ascending order (Weidenbach 2001, splitting: a clause's split dependencies).
-use Rattle.std.specs.Prelude.{◌≡◌, ◌⊎◌, ℕ, ◌<◌, Bool, not, ◌&&◌, ◌||◌, ◌==◌, nat_lt, if◌then◌else◌, List, [], ◌∷◌, filter}
+use Rattle.std.specs.Prelude.{◌≡◌, ◌⊎◌, ℕ, ◌<◌, Bool, not, ◌&&◌, ◌||◌, ◌==◌, nat_lt, if◌then◌else◌, List, [], ◌∷◌, filter, Option, None, Some, suc}
 use Rattle.std.specs.List.{list_any}
 use Rattle.dep_sets.specs.declared.deps.Assumption.{Assumption}
 
@@ -37,3 +37,13 @@ united (a ∷ deps) more = with_assumption a (united deps more)
 -- the set without the assumption
 abbrev pub without_assumption : Assumption → List Assumption → List Assumption
 without_assumption a = filter (λ b. not (is_same_assumption a b))
+
+-- a place of the tail, as a place of the whole; else the head's, if the head counts
+abbrev pub place_after : Bool → Option ℕ → Option ℕ
+place_after here (Some i) = Some (suc i)
+place_after here None = if here then Some 0 else None
+
+-- the last place of the path, from 0, whose assumption is in the set
+abbrev pub deepest_place : List Assumption → List Assumption → Option ℕ
+deepest_place deps [] = None
+deepest_place deps (a ∷ path) = place_after (contains_assumption deps a) (deepest_place deps path)

@@ -2,5 +2,7 @@
 #![tactic(auto)]
 
 mod deps;
+#[cfg(test)]
+mod tests;
 
 pub use deps::{Assumption, Deps};

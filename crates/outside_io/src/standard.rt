@@ -1,11 +1,11 @@
-ghost use Rattle.std.specs.Prelude.{◌≡◌, ◌≤◌, None};
+ghost use Rattle.std.specs.Prelude.{◌≡◌, ◌≤◌};
 ghost use Rattle.outside_io.specs.Outside.{Rose};
 
 use crate::errors::{Failed, WriteError};
 use crate::traits::{Sink, Source};
 use std::io::{Read, Write};
 
-/// A source over a reader, such as standard input, of whose bytes nothing is told.
+/// A source over a reader. It tells what the reader tells: of standard input, nothing.
 ///
 /// Each error of the reader, of whatever kind, is a fault, and is counted.
 #[derive(Drop)]
@@ -17,14 +17,15 @@ pub struct StdSource<R> {
 impl<R: Read> StdSource<R> {
     /// A source whose count of faults is 0.
     pub fn new(inner: R) -> StdSource<R>
-        ensures { ⟦<StdSource<R> as Source>⟧.faults result ≡ 0 }
+        ensures left { ⟦<StdSource<R> as Source>⟧.left result ≡ R.remaining inner }
+        ensures faults { ⟦<StdSource<R> as Source>⟧.faults result ≡ 0 }
     {
         StdSource { inner, faults: 0 }
     }
 }
 
 impl<R: Read> Source for StdSource<R> {
-    ghost left = { λ s. None };
+    ghost left = { λ s. R.remaining s.inner };
 
     ghost faults = { λ s. s.faults };
 
@@ -39,7 +40,7 @@ impl<R: Read> Source for StdSource<R> {
     }
 }
 
-/// A sink over a writer, such as standard output, of whose bytes nothing is told.
+/// A sink over a writer. It tells what the writer tells: of standard output, nothing.
 ///
 /// Each error of the writer, of whatever kind, is a fault, and so is a write that takes nothing;
 /// both are counted.
@@ -52,14 +53,15 @@ pub struct StdSink<W> {
 impl<W: Write> StdSink<W> {
     /// A sink whose count of faults is 0.
     pub fn new(inner: W) -> StdSink<W>
-        ensures { ⟦<StdSink<W> as Sink>⟧.faults result ≡ 0 }
+        ensures written { ⟦<StdSink<W> as Sink>⟧.written result ≡ W.contents inner }
+        ensures faults { ⟦<StdSink<W> as Sink>⟧.faults result ≡ 0 }
     {
         StdSink { inner, faults: 0 }
     }
 }
 
 impl<W: Write> Sink for StdSink<W> {
-    ghost written = { λ s. None };
+    ghost written = { λ s. W.contents s.inner };
 
     ghost faults = { λ s. s.faults };
 

@@ -1,17 +1,32 @@
 -- Which lists of lines are proofs.
-use Rattle.std.specs.Prelude.{◌≡◌, ℕ, ◌-◌, ◌≤◌, List, [], length, map, take, Some, IsSomeAnd, slice_get}
+use Rattle.std.specs.Prelude.{◌≡◌, ℕ, ◌-◌, ◌≤◌, List, [], length, map, take, Option, Some, IsSomeAnd, slice_get, IsTrue, true}
+use Rattle.std.specs.List.{list_all}
+use Rattle.spl_terms.specs.declared.clause.Part.{Part}
 use Rattle.spl_terms.specs.declared.clause.Clause.{Clause}
 use Rattle.spl_terms.specs.Clauses.{clause_symbols, IsEmpty}
+use Rattle.spl_truth.specs.Truth.{Follows}
 use Rattle.proof_steps.specs.declared.step.Statement.{Statement}
 use Rattle.proof_steps.specs.declared.step.Line.{Line}
-use Rattle.proof_steps.specs.Steps.{conclude}
+use Rattle.proof_steps.specs.Steps.{numbered, resolution, from_two, of_two, is_resolution_rule, conclude}
 
 abbrev pub stated : List Line → List Statement
 stated = map (λ l. l.stated)
 
+-- what Resolve concludes from the lines m and n at the places i and j, where neither has variables
+abbrev pub resolution_of_lines : ℕ → Part → ℕ → ℕ → ℕ → List Line → Option Statement
+resolution_of_lines i part j m n lines = of_two (from_two (resolution i part j [] [])) (numbered (stated lines) m) (numbered (stated lines) n)
+
+-- each step is by a rule of resolution
+abbrev pub AreByResolution : List Line → Type 0
+AreByResolution lines = IsTrue (list_all (λ l. is_resolution_rule l.step.rule) lines)
+
 -- the line states what its step concludes, in at most 4,096 symbols
 abbrev pub IsConclusion : List Clause → List Statement → Line → Type 0
 IsConclusion input earlier l = (conclude input earlier l.step ≡ Some l.stated) × (clause_symbols l.stated.clause ≤ 4096)
+
+-- and its step is by a rule of resolution
+abbrev pub IsResolved : List Clause → List Statement → Line → Type 0
+IsResolved input earlier l = IsConclusion input earlier l × (is_resolution_rule l.step.rule ≡ true)
 
 -- each line states what its step concludes from the lines before it
 abbrev pub AreConclusions : List Clause → List Line → Type 0
@@ -29,3 +44,11 @@ EndsEmpty lines = IsSomeAnd (slice_get lines (length lines - 1)) (λ l. IsContra
 pub record Checked (input : List Clause) (lines : List Line) : Type 0 where
   pub each : AreConclusions input lines
   pub ends : EndsEmpty lines
+
+-- the clause follows from the input, whatever is assumed: nothing is
+abbrev pub Stands : List Clause → Statement → Type 0
+Stands input s = Follows input s.clause × (s.deps ≡ [])
+
+-- what each line states stands
+abbrev pub AllStand : List Clause → List Line → Type 0
+AllStand input lines = (k : ℕ) (l : Line) → slice_get lines k ≡ Some l → Stands input l.stated

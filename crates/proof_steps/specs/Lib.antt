@@ -1,4 +1,5 @@
 pub mod Spots
 pub mod Parts
 pub mod Steps
+pub mod Parents
 pub mod Checked

@@ -2,7 +2,7 @@
 -- Resolution, factoring, paramodulation (superposition), equality resolution and equality factoring are those of
 -- Weidenbach 2001, section on superposition, here for given substitutions; the case rules are its splitting rule,
 -- as steps of one proof.
-use Rattle.std.specs.Prelude.{◌≡◌, ℕ, zero, suc, ◌-◌, ◌≤◌, Bool, true, false, not, ◌&&◌, ◌==◌, if◌then◌else◌, List, [], ◌∷◌, ◌++◌, length, map, Option, Some, None, option_map, option_and_then, slice_get, remove, nat_le}
+use Rattle.std.specs.Prelude.{◌≡◌, ℕ, zero, suc, ◌<◌, ◌≤◌, min, ⊤, Bool, true, false, ◌&&◌, ◌==◌, if◌then◌else◌, List, [], ◌∷◌, ◌++◌, length, Option, Some, None, IfSome, IsSomeAnd, Result, Ok, Err, option_map, option_and_then, slice_get, remove, nat_le}
 use Rattle.spl_terms.specs.declared.term.Term.{Term}
 use Rattle.spl_terms.specs.declared.atom.Atom.{Atom}
 use Rattle.spl_terms.specs.declared.atom.Atom.TheVariants.{Holds, Equal}
@@ -11,10 +11,11 @@ use Rattle.spl_terms.specs.declared.clause.Part.TheVariants.{Constraint, Anteced
 use Rattle.spl_terms.specs.declared.clause.Spot.{Spot}
 use Rattle.spl_terms.specs.declared.clause.Clause.{Clause}
 use Rattle.spl_terms.specs.Terms.{term_eq}
-use Rattle.spl_terms.specs.Clauses.{is_same, is_of_sort, is_empty, part_of, clause_symbols, clause_variables, firsts, in_order}
+use Rattle.spl_terms.specs.declared.clause.PushError.{PushError}
+use Rattle.spl_terms.specs.declared.clause.PushError.TheVariants.{Big, Memory}
+use Rattle.spl_terms.specs.Clauses.{is_same, is_empty, part_of, clause_symbols, clause_variables, firsts, in_order}
 use Rattle.spl_truth.specs.Truth.{apply}
 use Rattle.spl_truth.specs.Redundancy.{has_equal_sides}
-use Rattle.spl_truth.specs.declared.replace.Subst.{Subst}
 use Rattle.dep_sets.specs.declared.deps.Assumption.{Assumption}
 use Rattle.dep_sets.specs.Assumptions.{contains_assumption, united, without_assumption}
 use Rattle.proof_steps.specs.declared.step.Statement.{Statement}
@@ -193,3 +194,24 @@ conclude input earlier step = concluded input earlier step.rule step.parents
 abbrev pub within : Option Statement → Option Statement
 within None = None
 within (Some s) = when (nat_le (clause_symbols s.clause) 4096) s
+
+-- ---- the rules of resolution
+
+-- input, resolution and factoring; the others are about equations and splits
+abbrev pub is_resolution_rule : Rule → Bool
+is_resolution_rule (Input number) = true
+is_resolution_rule (Resolve i part j s t) = true
+is_resolution_rule (Factor s) = true
+is_resolution_rule _ = false
+
+-- the step that resolves atom i of the line m with atom j of the line n, both without variables
+abbrev pub ground_resolve : ℕ → Part → ℕ → ℕ → ℕ → Step
+ground_resolve i part j m n = record { rule = Resolve i part j (record { terms = [] }) (record { terms = [] }); parents = m ∷ n ∷ [] }
+
+-- ---- answers
+
+-- what was concluded, if anything, and it fits; `Big` where it was concluded and has more than 4,096 symbols; want of memory is free
+abbrev pub Sized : Option Statement → Result (Option Statement) PushError → Type 0
+Sized o (Ok made) = (made ≡ o) × IfSome o (λ s. clause_symbols s.clause ≤ 4096)
+Sized o (Err (Big symbols)) = IsSomeAnd o (λ s. (4096 < clause_symbols s.clause) × (symbols ≡ min (clause_symbols s.clause) 1000000))
+Sized o (Err Memory) = ⊤

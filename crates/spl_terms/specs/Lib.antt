@@ -2,3 +2,4 @@ pub mod formers
 pub mod Lists
 pub mod Terms
 pub mod Clauses
+pub mod Alike

@@ -1,4 +1,4 @@
-ghost use Rattle.std.specs.Prelude.{◌≡◌, [], ◌∷◌, ◌++◌, ◌<◌, ◌≤◌, length, slice_get, slice_set, remove, ◌↔◌, IsTrue, IfOk, MatchOption, OnOk, OnErr};
+ghost use Rattle.std.specs.Prelude.{◌≡◌, [], ◌∷◌, ◌++◌, ◌<◌, ◌≤◌, length, slice_get, slice_set, remove, take, ◌↔◌, IsTrue, IfOk, MatchOption, OnOk, OnErr};
 ghost use Rattle.std.specs.Option.{option_copied};
 
 use std::alloc::{AllocError, Global};
@@ -39,7 +39,7 @@ impl<T> Items<T> {
         }
     }
 
-    /// An empty list with room for `count` items.
+    /// An empty list with room for `count` items, and no more.
     pub fn with_room(alloc: Global, count: usize) -> Result<Items<T>, AllocError>
         ensures { IfOk result (λ list. list ≡ []) }
     {
@@ -128,6 +128,13 @@ impl<T: Drop> Items<T> {
     {
         let Items { mut items } = more;
         self.items.append(&mut items)
+    }
+
+    /// Drops the items past the first `count`.
+    pub fn truncate(&mut self, count: usize)
+        ensures { self.new ≡ take count self.old }
+    {
+        self.items.truncate(count);
     }
 
     /// Takes the item at this place out, from 0; those behind it move up.

@@ -1,0 +1,9 @@
+pub mod Snoc
+pub mod PickLemmas
+pub mod RunLemmas
+pub mod ProofLemmas
+pub mod MarkLemmas
+pub mod CoverLemmas
+pub mod GiveLemmas
+pub mod InputLemmas
+pub mod ExtractLemmas

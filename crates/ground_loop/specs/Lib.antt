@@ -1,0 +1,7 @@
+pub mod Picking
+pub mod Runs
+pub mod Covering
+pub mod Ends
+pub mod Proofs
+pub mod Searching
+pub mod Endings

@@ -1,0 +1,191 @@
+ghost use Rattle.std.specs.Prelude.{◌≡◌, ◌<◌, ◌^◌, ◌++◌, length, OnOk};
+ghost use Rattle.proof_steps.specs.declared.step.Rule.{Rule};
+ghost use Rattle.proof_text.specs.Texts.{line_text, lines_text, pairs_text, proof_text};
+
+use crate::lists::{push_assumptions, push_clause, push_numbers, push_terms};
+use crate::words::{
+    push_bytes, push_direction, push_negated, push_number, push_part, push_place, push_rule,
+};
+use proof_steps::{Line, Rule};
+use spl_symbols::Signature;
+use spl_terms::{Part, Spot};
+use spl_truth::Subst;
+use std::alloc::{AllocError, Global};
+
+fn push_resolve(
+    alloc: Global,
+    out: &mut Vec<u8>,
+    signature: &Signature,
+    i: u32,
+    part: Part,
+    j: u32,
+    s: &Subst,
+    t: &Subst,
+) -> Result<(), AllocError>
+    ensures { OnOk result (out.new.items ≡ out.old.items ++ pairs_text signature.now (Rule.Resolve i part j s.now t.now)) }
+{
+    push_place(alloc, out, b"i:", i)?;
+    push_bytes(out, b",part:")?;
+    push_part(out, part)?;
+    push_place(alloc, out, b",j:", j)?;
+    push_terms(alloc, out, signature, b",s:", s.terms.as_slice())?;
+    push_terms(alloc, out, signature, b",t:", t.terms.as_slice())?;
+    push_bytes(out, b",")
+}
+
+fn push_paramodulate(
+    alloc: Global,
+    out: &mut Vec<u8>,
+    signature: &Signature,
+    i: u32,
+    right_to_left: bool,
+    spot: &Spot,
+    s: &Subst,
+    t: &Subst,
+) -> Result<(), AllocError>
+    ensures { OnOk result (out.new.items ≡ out.old.items ++ pairs_text signature.now (Rule.Paramodulate i right_to_left spot.now s.now t.now)) }
+{
+    push_place(alloc, out, b"i:", i)?;
+    push_bytes(out, b",dir:")?;
+    push_direction(out, right_to_left)?;
+    push_bytes(out, b",part:")?;
+    push_part(out, spot.part)?;
+    push_place(alloc, out, b",j:", spot.place)?;
+    push_bytes(out, b",pos:")?;
+    push_numbers(alloc, out, spot.path.as_slice())?;
+    push_terms(alloc, out, signature, b",s:", s.terms.as_slice())?;
+    push_terms(alloc, out, signature, b",t:", t.terms.as_slice())?;
+    push_bytes(out, b",")
+}
+
+fn push_eq_factor(
+    alloc: Global,
+    out: &mut Vec<u8>,
+    signature: &Signature,
+    i: u32,
+    i_right: bool,
+    j: u32,
+    j_right: bool,
+    s: &Subst,
+) -> Result<(), AllocError>
+    ensures { OnOk result (out.new.items ≡ out.old.items ++ pairs_text signature.now (Rule.EqFactor i i_right j j_right s.now)) }
+{
+    push_place(alloc, out, b"i:", i)?;
+    push_bytes(out, b",idir:")?;
+    push_direction(out, i_right)?;
+    push_place(alloc, out, b",j:", j)?;
+    push_bytes(out, b",jdir:")?;
+    push_direction(out, j_right)?;
+    push_terms(alloc, out, signature, b",s:", s.terms.as_slice())?;
+    push_bytes(out, b",")
+}
+
+/// Appends the pairs of the rule, each with a comma after it.
+fn push_pairs(
+    alloc: Global,
+    out: &mut Vec<u8>,
+    signature: &Signature,
+    rule: &Rule,
+) -> Result<(), AllocError>
+    ensures { OnOk result (out.new.items ≡ out.old.items ++ pairs_text signature.now rule.now) }
+{
+    match rule {
+        Rule::Input { no } => {
+            push_place(alloc, out, b"no:", *no)?;
+            push_bytes(out, b",")
+        }
+        Rule::Resolve { i, part, j, s, t } => {
+            push_resolve(alloc, out, signature, *i, *part, *j, s, t)
+        }
+        Rule::Factor { s } => {
+            push_terms(alloc, out, signature, b"s:", s.terms.as_slice())?;
+            push_bytes(out, b",")
+        }
+        Rule::Paramodulate {
+            i,
+            right_to_left,
+            spot,
+            s,
+            t,
+        } => push_paramodulate(alloc, out, signature, *i, *right_to_left, spot, s, t),
+        Rule::Reflex { j, s } => {
+            push_place(alloc, out, b"j:", *j)?;
+            push_terms(alloc, out, signature, b",s:", s.terms.as_slice())?;
+            push_bytes(out, b",")
+        }
+        Rule::EqFactor {
+            i,
+            i_right,
+            j,
+            j_right,
+            s,
+        } => push_eq_factor(alloc, out, signature, *i, *i_right, *j, *j_right, s),
+        Rule::Assume { side, negated } => {
+            push_place(alloc, out, b"side:", *side)?;
+            push_bytes(out, b",neg:")?;
+            push_negated(alloc, out, *negated)?;
+            push_bytes(out, b",")
+        }
+        Rule::CaseLeft | Rule::CaseRight | Rule::CaseBoth => Ok(()),
+    }
+}
+
+/// Appends the text of the line with this number, from 1.
+fn push_line(
+    alloc: Global,
+    out: &mut Vec<u8>,
+    signature: &Signature,
+    number: u32,
+    line: &Line,
+) -> Result<(), AllocError>
+    ensures { OnOk result (out.new.items ≡ out.old.items ++ line_text signature.now number line.now) }
+{
+    push_place(alloc, out, b"step(", number)?;
+    push_bytes(out, b",")?;
+    push_clause(alloc, out, signature, &line.stated.clause)?;
+    push_bytes(out, b",")?;
+    push_rule(out, &line.step.rule)?;
+    push_bytes(out, b",")?;
+    push_numbers(alloc, out, line.step.parents.as_slice())?;
+    push_bytes(out, b",[")?;
+    push_pairs(alloc, out, signature, &line.step.rule)?;
+    push_bytes(out, b"dep:")?;
+    push_assumptions(alloc, out, line.stated.deps.as_slice())?;
+    push_bytes(out, b"]).\n")
+}
+
+fn push_lines(
+    alloc: Global,
+    out: &mut Vec<u8>,
+    signature: &Signature,
+    lines: &[Line],
+) -> Result<(), AllocError>
+    requires { length lines.now < 2 ^ 32 }
+    ensures { OnOk result (out.new.items ≡ out.old.items ++ lines_text signature.now 1 lines.now) }
+{
+    for (k, line) in lines.iter().enumerate() {
+        push_line(alloc, out, signature, k as u32 + 1, line)?;
+    }
+    Ok(())
+}
+
+/// Appends the text of the proof list: a head, one line a step with the numbers from 1, and an end.
+///
+/// Symbols are printed by their names in the signature; one that isn't there has no text.
+///
+/// # Errors
+///
+/// Only where there is no memory; a part of the text may have been appended.
+pub fn print_proof(
+    alloc: Global,
+    out: &mut Vec<u8>,
+    signature: &Signature,
+    lines: &[Line],
+) -> Result<(), AllocError>
+    requires { length lines.now < 2 ^ 32 }
+    ensures { OnOk result (out.new.items ≡ out.old.items ++ proof_text signature.now lines.now) }
+{
+    push_bytes(out, b"list_of_proof(spl).\n")?;
+    push_lines(alloc, out, signature, lines)?;
+    push_bytes(out, b"end_of_list.\n")
+}

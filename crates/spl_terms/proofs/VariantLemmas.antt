@@ -1,0 +1,302 @@
+-- Clauses that are equal once their variables are renumbered.
+use Rattle.std.proofs.Common.{◌≡◌, ◌⊎◌, inl, inr, ℕ, ◌+◌, Bool, true, false, not, ◌&&◌, ◌||◌, ◌==◌, if◌then◌else◌, cond, List, [], ◌∷◌, ◌++◌, fold, map, refl, sym, ap, subst, eq-eqb, arith, ◌∙◌}
+use Rattle.std.specs.List.{list_any}
+use Rattle.std.proofs.Math.Bool.{or-true}
+use Rattle.std.proofs.lemmas.List.Folds.{list_any-append}
+use Rattle.std.proofs.lemmas.Bool.{eqb-true, false≢true}
+use Rattle.spl_terms.specs.declared.term.Term.{Term, Var, App}
+use Rattle.spl_terms.specs.declared.atom.Atom.{Atom}
+use Rattle.spl_terms.specs.declared.atom.Atom.TheVariants.{Holds, Equal}
+use Rattle.spl_terms.specs.declared.clause.Clause.{Clause}
+use Rattle.spl_terms.specs.Terms.{symbol_eq, term_eq, terms_eq, replace}
+use Rattle.spl_terms.specs.Clauses.{clause_variables, atom_eq, atoms_eq, clause_eq, replace_in_atom, replace_in, noted, firsts, place_in, number_in, at_lists, distinct, renumbered, in_order}
+use Rattle.spl_terms.specs.Alike.{alike, alike_terms, alike_atoms, alike_lists, alike_clauses, agree, correspond}
+use Rattle.spl_terms.proofs.TermLemmas.{Each, term_induction, and-parts, term_eq-Var-Var, term_eq-Var-App, term_eq-App-Var, term_eq-App-App}
+use Rattle.spl_terms.proofs.NumberLemmas.{replace-Var, replace-App}
+use Rattle.spl_terms.proofs.ClauseLemmas.{clause_eq-true, clause_eq-same}
+use Rattle.spl_terms.proofs.AlikeLemmas.{alike-Var-Var, alike-Var-App, alike-App-Var, alike-App-App, pass, pass-append, zips_clause}
+
+-- ---- equality of renamed clauses is a test of their variables
+
+module _ (h k : ℕ → ℕ) where
+  abbrev same_name : ℕ → ℕ → Bool
+  same_name v w = h v == k w
+
+  abbrev left : Term → Term
+  left = replace (λ v. Var (h v))
+
+  abbrev right : Term → Term
+  right = replace (λ v. Var (k v))
+
+  abbrev Renames : Term → Type 0
+  Renames s = (t : Term) → term_eq (left s) (right t) ≡ alike same_name s t
+
+  renames_each : (ss : List Term) → Each Renames ss → (ts : List Term) → terms_eq (map left ss) (map right ts) ≡ alike_terms same_name ss ts
+  renames_each [] each [] = refl
+  renames_each [] each (t ∷ ts) = refl
+  renames_each (s ∷ ss) each [] = refl
+  renames_each (s ∷ ss) each (t ∷ ts) = λ i. each.0 t i && renames_each ss each.1 ts i
+
+  -- the two sides, each at its form
+  at : (s t x y : Term) (b : Bool) → left s ≡ x → right t ≡ y → term_eq x y ≡ b → alike same_name s t ≡ b → term_eq (left s) (right t) ≡ alike same_name s t
+  at s t x y b e g p q = (λ i. term_eq (e i) (g i)) ∙ p ∙ sym q
+
+  renames : (s : Term) → Renames s
+  renames =
+      term_induction Renames
+      (λ v. term_induction (λ t. term_eq (left (Var v)) (right t) ≡ alike same_name (Var v) t)
+      (λ w. at (Var v) (Var w) _ _ _ (replace-Var (λ v. Var (h v)) v) (replace-Var (λ v. Var (k v)) w) (term_eq-Var-Var (h v) (k w)) (alike-Var-Var same_name v w))
+      (λ g ts _. at (Var v) (App g ts) _ _ _ (replace-Var (λ v. Var (h v)) v) (replace-App (λ v. Var (k v)) g ts) (term_eq-Var-App (h v) g (map right ts)) (alike-Var-App same_name v g ts)))
+      (λ f ss each. term_induction (λ t. term_eq (left (App f ss)) (right t) ≡ alike same_name (App f ss) t)
+      (λ w. at (App f ss) (Var w) _ _ _ (replace-App (λ v. Var (h v)) f ss) (replace-Var (λ v. Var (k v)) w) (term_eq-App-Var f (map left ss) (k w)) (alike-App-Var same_name f ss w))
+      (λ g ts _. at (App f ss) (App g ts) _ _ _ (replace-App (λ v. Var (h v)) f ss) (replace-App (λ v. Var (k v)) g ts)
+      (term_eq-App-App f (map left ss) g (map right ts) ∙ ap (λ b. symbol_eq f g && b) (renames_each ss each ts)) (alike-App-App same_name f ss g ts)))
+
+  renames_terms : (ss ts : List Term) → terms_eq (map left ss) (map right ts) ≡ alike_terms same_name ss ts
+  renames_terms [] [] = refl
+  renames_terms [] (t ∷ ts) = refl
+  renames_terms (s ∷ ss) [] = refl
+  renames_terms (s ∷ ss) (t ∷ ts) = λ i. renames s t i && renames_terms ss ts i
+
+  renames_atom : (a b : Atom) → atom_eq (replace_in_atom (λ v. Var (h v)) a) (replace_in_atom (λ v. Var (k v)) b) ≡ alike_atoms same_name a b
+  renames_atom (Holds p ss) (Holds q ts) = ap (λ b. symbol_eq p q && b) (renames_terms ss ts)
+  renames_atom (Holds p ss) (Equal u v) = refl
+  renames_atom (Equal s t) (Holds q ts) = refl
+  renames_atom (Equal s t) (Equal u v) = λ i. renames s u i && renames t v i
+
+  renames_list : (as' bs : List Atom) → atoms_eq (map (replace_in_atom (λ v. Var (h v))) as') (map (replace_in_atom (λ v. Var (k v))) bs) ≡ alike_lists same_name as' bs
+  renames_list [] [] = refl
+  renames_list [] (b ∷ bs) = refl
+  renames_list (a ∷ as') [] = refl
+  renames_list (a ∷ as') (b ∷ bs) = λ i. renames_atom a b i && renames_list as' bs i
+
+  pub renames_clause : (c d : Clause) → clause_eq (replace_in (λ v. Var (h v)) c) (replace_in (λ v. Var (k v)) d) ≡ alike_clauses same_name c d
+  renames_clause c d = λ i. renames_list c.constraint d.constraint i && renames_list c.antecedent d.antecedent i && renames_list c.succedent d.succedent i
+
+-- ---- from a test that passes to another one
+
+abbrev has : ℕ → List ℕ → Bool
+has v = list_any (λ w. v == w)
+
+itself : (v : ℕ) → (v == v) ≡ true
+itself v = eq-eqb v v refl
+
+eqb-sym : (a b : ℕ) → (a == b) ≡ (b == a)
+eqb-sym a b = by_test (a == b) (b == a) refl refl
+  where
+    by_test : (x y : Bool) → (a == b) ≡ x → (b == a) ≡ y → x ≡ y
+    by_test true true e g = refl
+    by_test false false e g = refl
+    by_test true false e g = absurd (false≢true (sym g ∙ eq-eqb b a (sym (eqb-true a b e))))
+    by_test false true e g = absurd (false≢true (sym e ∙ eq-eqb a b (sym (eqb-true b a g))))
+
+or-left : (a b : Bool) → a ≡ true → (a || b) ≡ true
+or-left a b e = ap (λ c. c || b) e
+
+or-right : (a b : Bool) → b ≡ true → (a || b) ≡ true
+or-right a b e = ap (λ c. a || c) e ∙ or-true a
+
+and-both : (a b : Bool) → a ≡ true → b ≡ true → (a && b) ≡ true
+and-both a b e g = λ i. (e ∙ refl) i && g i
+
+pass-more : (p q : ℕ → ℕ → Bool) (xs ys : List ℕ) → pass p xs ys ≡ true → ((v w : ℕ) → has v xs ≡ true → has w ys ≡ true → p v w ≡ true → q v w ≡ true) → pass q xs ys ≡ true
+pass-more p q [] [] e h = refl
+pass-more p q [] (y ∷ ys) e h = absurd (cc)
+pass-more p q (x ∷ xs) [] e h = absurd (cc)
+pass-more p q (x ∷ xs) (y ∷ ys) e h =
+    let r : (p x y ≡ true) × (pass p xs ys ≡ true) = and-parts _ _ e in
+    and-both (q x y) (pass q xs ys) (h x y (or-left (x == x) (has x xs) (itself x)) (or-left (y == y) (has y ys) (itself y)) r.0)
+    (pass-more p q xs ys r.1 (λ v w i j. h v w (or-right (v == x) (has v xs) i) (or-right (w == y) (has w ys) j)))
+
+-- ---- the same names come from variables that correspond
+
+-- different elements of the list get different names
+abbrev Apart : (ℕ → ℕ) → List ℕ → Type 0
+Apart h xs = (v w : ℕ) → has v xs ≡ true → h v ≡ h w → v ≡ w
+
+agreeing : (v w x y : ℕ) → (x ≡ v → y ≡ w) → (y ≡ w → x ≡ v) → agree v w x y ≡ true
+agreeing v w x y f g = by_test (x == v) (y == w) refl refl
+  where
+    by_test : (a b : Bool) → (x == v) ≡ a → (y == w) ≡ b → (if a then b else not b) ≡ true
+    by_test true true e d = refl
+    by_test true false e d = absurd (false≢true (sym d ∙ eq-eqb y w (f (eqb-true x v e))))
+    by_test false true e d = absurd (false≢true (sym e ∙ eq-eqb x v (g (eqb-true y w d))))
+    by_test false false e d = refl
+
+pub names_correspond : (h k : ℕ → ℕ) (xs ys : List ℕ) → Apart h xs → Apart k ys → pass (λ v w. h v == k w) xs ys ≡ true → pass (λ v w. pass (agree v w) xs ys) xs ys ≡ true
+names_correspond h k xs ys hs ks e =
+    pass-more (λ v w. h v == k w) (λ v w. pass (agree v w) xs ys) xs ys e
+    (λ v w vs ws same.
+    pass-more (λ x y. h x == k y) (agree v w) xs ys e
+    (λ x y xi yi also.
+    let p : h v ≡ k w = eqb-true (h v) (k w) same in
+    let q : h x ≡ k y = eqb-true (h x) (k y) also in
+    agreeing v w x y
+    (λ t. ks y w yi (sym q ∙ ap h t ∙ p))
+    (λ t. hs x v xi (q ∙ ap k t ∙ sym p))))
+
+-- ---- variables that correspond have the same place
+
+agree-tests : (v w x y : ℕ) → agree v w x y ≡ true → (x == v) ≡ (y == w)
+agree-tests v w x y = by_test (x == v) (y == w)
+  where
+    by_test : (a b : Bool) → (if a then b else not b) ≡ true → a ≡ b
+    by_test true true e = refl
+    by_test true false e = absurd (cc)
+    by_test false true e = absurd (cc)
+    by_test false false e = refl
+
+agree-has : (v w : ℕ) (xs ys : List ℕ) → pass (agree v w) xs ys ≡ true → has v xs ≡ has w ys
+agree-has v w [] [] e = refl
+agree-has v w [] (y ∷ ys) e = absurd (cc)
+agree-has v w (x ∷ xs) [] e = absurd (cc)
+agree-has v w (x ∷ xs) (y ∷ ys) e =
+    let r : (agree v w x y ≡ true) × (pass (agree v w) xs ys ≡ true) = and-parts _ _ e in
+    let t : (v == x) ≡ (w == y) = eqb-sym v x ∙ agree-tests v w x y r.0 ∙ eqb-sym y w in
+    λ i. t i || agree-has v w xs ys r.1 i
+
+agree-place : (v w : ℕ) (xs ys : List ℕ) → pass (agree v w) xs ys ≡ true → place_in xs v ≡ place_in ys w
+agree-place v w [] [] e = refl
+agree-place v w [] (y ∷ ys) e = absurd (cc)
+agree-place v w (x ∷ xs) [] e = absurd (cc)
+agree-place v w (x ∷ xs) (y ∷ ys) e =
+    let r : (agree v w x y ≡ true) × (pass (agree v w) xs ys ≡ true) = and-parts _ _ e in
+    let t = agree-tests v w x y r.0 in
+    let k = agree-place v w xs ys r.1 in
+    λ i. cond (not (t i)) (1 + k i) 0
+
+-- what agrees with the two lists goes on to agree with their different elements, by first occurrence
+module _ (q : ℕ → ℕ → Bool) where
+  abbrev Agree : List ℕ → List ℕ → Type 0
+  Agree xs ys = (v w : ℕ) → q v w ≡ true → pass (agree v w) xs ys ≡ true
+
+  agree-noted : (x y : ℕ) (os ps : List ℕ) → q x y ≡ true → ((v w : ℕ) → q v w ≡ true → agree v w x y ≡ true) → Agree os ps → Agree (noted os x) (noted ps y)
+  agree-noted x y os ps here at_these before v w e = by_test (has x os) (has y ps) (agree-has x y os ps (before x y here))
+    where
+      by_test : (a b : Bool) → a ≡ b → pass (agree v w) (if a then os else os ++ x ∷ []) (if b then ps else ps ++ y ∷ []) ≡ true
+      by_test true true _ = before v w e
+      by_test false false _ = pass-append (agree v w) (agree v w) os ps (x ∷ []) (y ∷ []) (before v w e) ∙ and-both _ _ (before v w e) (and-both _ true (at_these v w e) refl)
+      by_test true false d = absurd (cc)
+      by_test false true d = absurd (cc)
+
+  agree-firsts : (xs ys os ps : List ℕ) → pass q xs ys ≡ true → Agree xs ys → Agree os ps → Agree (fold noted os xs) (fold noted ps ys)
+  agree-firsts [] [] os ps e rest before = before
+  agree-firsts [] (y ∷ ys) os ps e rest before = absurd (cc)
+  agree-firsts (x ∷ xs) [] os ps e rest before = absurd (cc)
+  agree-firsts (x ∷ xs) (y ∷ ys) os ps e rest before =
+      let r : (q x y ≡ true) × (pass q xs ys ≡ true) = and-parts _ _ e in
+      agree-firsts xs ys (noted os x) (noted ps y) r.1 (λ v w h. (and-parts _ _ (rest v w h)).1)
+      (agree-noted x y os ps r.0 (λ v w h. (and-parts _ _ (rest v w h)).0) before)
+
+-- ---- different variables have different places
+
+or-cases : (a b : Bool) → (a || b) ≡ true → (a ≡ true) ⊎ (b ≡ true)
+or-cases true b e = inl refl
+or-cases false b e = inr e
+
+has-noted : (v x : ℕ) (os : List ℕ) → has v os ≡ true → has v (noted os x) ≡ true
+has-noted v x os e = by_test (has x os)
+  where
+    by_test : (a : Bool) → has v (if a then os else os ++ x ∷ []) ≡ true
+    by_test true = e
+    by_test false = list_any-append (λ w. v == w) os (x ∷ []) ∙ or-left _ _ e
+
+noted-has : (v : ℕ) (os : List ℕ) → has v (noted os v) ≡ true
+noted-has v os = by_test (has v os) refl
+  where
+    by_test : (a : Bool) → has v os ≡ a → has v (if a then os else os ++ v ∷ []) ≡ true
+    by_test true e = e
+    by_test false e = list_any-append (λ w. v == w) os (v ∷ []) ∙ or-right _ _ (or-left (v == v) false (itself v))
+
+has-fold : (v : ℕ) (xs os : List ℕ) → has v os ≡ true → has v (fold noted os xs) ≡ true
+has-fold v [] os e = e
+has-fold v (x ∷ xs) os e = has-fold v xs (noted os x) (has-noted v x os e)
+
+has-firsts : (v : ℕ) (xs os : List ℕ) → has v xs ≡ true → has v (fold noted os xs) ≡ true
+has-firsts v [] os e = absurd (cc)
+has-firsts v (x ∷ xs) os e = elim (or-cases (v == x) (has v xs) e) [
+  | inl here ↦ has-fold v xs (noted os x) (subst (λ (y : ℕ). has v (noted os y) ≡ true) (eqb-true v x here) (noted-has v os))
+  | inr there ↦ has-firsts v xs (noted os x) there
+]
+
+place-apart : (os : List ℕ) (v w : ℕ) → has v os ≡ true → place_in os v ≡ place_in os w → v ≡ w
+place-apart [] v w e p = absurd (cc)
+place-apart (x ∷ os) v w e p = by_test (x == v) (x == w) refl refl p (λ h q. place-apart os v w h q)
+  where
+    by_test : (a b : Bool) → (x == v) ≡ a → (x == w) ≡ b → cond (not a) (1 + place_in os v) 0 ≡ cond (not b) (1 + place_in os w) 0 → (has v os ≡ true → place_in os v ≡ place_in os w → v ≡ w) → v ≡ w
+    by_test true true f g q more = sym (eqb-true x v f) ∙ eqb-true x w g
+    by_test true false f g q more = absurd (omega arith)
+    by_test false true f g q more = absurd (omega arith)
+    by_test false false f g q more = more (ap (λ b. b || has v os) (sym (eqb-sym v x ∙ f)) ∙ e) (omega arith)
+
+apart : (xs : List ℕ) → Apart (place_in (firsts xs)) xs
+apart xs v w e p = place-apart (firsts xs) v w (has-firsts v xs [] e) p
+
+-- ---- variants
+
+module _ (c d : Clause) where
+  variant_by : (h k : ℕ → ℕ) → Apart h (clause_variables c) → Apart k (clause_variables d) → alike_clauses (λ v w. h v == k w) c d ≡ true → alike_clauses (correspond c d) c d ≡ true
+  variant_by h k hs ks e =
+      let xs = clause_variables c in
+      let ys = clause_variables d in
+      let zip : (q : ℕ → ℕ → Bool) → alike_clauses q c d ≡ pass q xs ys = zips_clause (λ v w. h v == k w) c d e in
+      zip (correspond c d)
+      ∙ pass-more (λ v w. pass (agree v w) xs ys) (correspond c d) xs ys (names_correspond h k xs ys hs ks (sym (zip (λ v w. h v == k w)) ∙ e))
+      (λ v w _ _ r. zip (agree v w) ∙ r)
+
+  corresponding : alike_clauses (correspond c d) c d ≡ true → alike_clauses (λ v w. number_in c v == number_in d w) c d ≡ true
+  corresponding e =
+      let xs = clause_variables c in
+      let ys = clause_variables d in
+      let zip : (q : ℕ → ℕ → Bool) → alike_clauses q c d ≡ pass q xs ys = zips_clause (correspond c d) c d e in
+      let all : pass (correspond c d) xs ys ≡ true = sym (zip (correspond c d)) ∙ e in
+      zip (λ v w. number_in c v == number_in d w)
+      ∙ pass-more (correspond c d) (λ v w. number_in c v == number_in d w) xs ys all
+      (λ v w _ _ q. eq-eqb _ _ (agree-place v w (firsts xs) (firsts ys)
+      (agree-firsts (correspond c d) xs ys [] [] all (λ v w r. sym (zip (agree v w)) ∙ r) (λ v w r. refl) v w q)))
+
+  pub variant-equal : alike_clauses (correspond c d) c d ≡ true → renumbered c ≡ renumbered d
+  variant-equal e = clause_eq-true (renumbered c) (renumbered d) (renames_clause (number_in c) (number_in d) c d ∙ corresponding e)
+
+  pub equal-variant : renumbered c ≡ renumbered d → alike_clauses (correspond c d) c d ≡ true
+  equal-variant e =
+      variant_by (number_in c) (number_in d) (apart (clause_variables c)) (apart (clause_variables d))
+      (sym (renames_clause (number_in c) (number_in d) c d) ∙ clause_eq-same (renumbered c) (renumbered d) e)
+
+pub ruleset variant_laws = (variant-equal, equal-variant)
+
+-- ---- what is renumbered stays so
+
+same_terms : (ts : List Term) → Each (λ t. replace (λ v. Var v) t ≡ t) ts → map (replace (λ v. Var v)) ts ≡ ts
+same_terms [] each = refl
+same_terms (t ∷ ts) each = λ i. each.0 i ∷ same_terms ts each.1 i
+
+same_term : (t : Term) → replace (λ v. Var v) t ≡ t
+same_term =
+    term_induction (λ t. replace (λ v. Var v) t ≡ t)
+    (λ v. replace-Var (λ v. Var v) v)
+    (λ f ts each. replace-App (λ v. Var v) f ts ∙ ap (App f) (same_terms ts each))
+
+all_same : (ts : List Term) → map (replace (λ v. Var v)) ts ≡ ts
+all_same [] = refl
+all_same (t ∷ ts) = λ i. same_term t i ∷ all_same ts i
+
+same_atoms : (as' : List Atom) → map (replace_in_atom (λ v. Var v)) as' ≡ as'
+same_atoms [] = refl
+same_atoms (Holds p ts ∷ as') = λ i. Holds p (all_same ts i) ∷ same_atoms as' i
+same_atoms (Equal s t ∷ as') = λ i. Equal (same_term s i) (same_term t i) ∷ same_atoms as' i
+
+pub same_clause : (c : Clause) → replace_in (λ v. Var v) c ≡ c
+same_clause c = λ i. record { constraint = same_atoms c.constraint i; antecedent = same_atoms c.antecedent i; succedent = same_atoms c.succedent i }
+
+pub renumbered-renumbered : (c : Clause) → renumbered (renumbered c) ≡ renumbered c
+renumbered-renumbered c =
+    variant-equal (renumbered c) c
+    (variant_by (renumbered c) c (λ v. v) (number_in c) (λ v w _ p. p) (apart (clause_variables c))
+    (sym (renames_clause (λ v. v) (number_in c) (renumbered c) c)
+    ∙ clause_eq-same (replace_in (λ v. Var v) (renumbered c)) (renumbered c) (same_clause (renumbered c))))
+
+pub renumbered-in_order : (c : Clause) → renumbered (in_order c) ≡ in_order c
+renumbered-in_order c = renumbered-renumbered (at_lists distinct c)
+
+pub ruleset order_laws = (renumbered-in_order)

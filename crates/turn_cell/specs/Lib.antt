@@ -1,0 +1,4 @@
+pub mod Lent
+pub mod Lists
+pub mod Rule
+pub mod Seats

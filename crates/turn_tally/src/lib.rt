@@ -1,0 +1,15 @@
+//! A tally that workers share by turns.
+#![tactic(auto)]
+
+mod entry;
+mod finished;
+mod tally;
+mod work;
+
+pub use entry::Entry;
+pub use finished::Finished;
+pub use tally::Tally;
+pub use work::{append_once, enter_at_once, tally_by_turns};
+
+#[cfg(test)]
+mod tests;

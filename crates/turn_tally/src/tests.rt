@@ -1,0 +1,148 @@
+ghost use Rattle.std.specs.Prelude.{◌≡◌, false, IfSome};
+ghost use Rattle.turn_cell.specs.Seats.{new_seat};
+ghost use Rattle.turn_tally.specs.Runs.{HasWorked};
+
+use super::*;
+use std::alloc::Global;
+use std::test::*;
+use turn_cell::{Seat, TurnCell};
+
+// Takes the turn with the first seat, appends 7, and tries with the second seat meanwhile. Whether the turn came, the entry found memory, and the second try was refused.
+fn try_both(cell: &TurnCell<Tally>, first: &mut Seat<Tally>, second: &mut Seat<Tally>) -> [bool; 3]
+    requires first { first.old ≡ new_seat cell.now 1 9 }
+    requires second { second.old ≡ new_seat cell.now 2 9 }
+    ensures first { HasWorked first.old first.new }
+    ensures second { HasWorked second.old second.new }
+{
+    let Some(mut turn) = cell.try_enter(first) else {
+        return [false; 3];
+    };
+    let appended = turn.value_mut().append(1, 7).is_ok();
+    let refused = is_refused(cell, second);
+    cell.leave(turn, first);
+    [true, appended, refused]
+}
+
+// Tries with a seat, and leaves the turn if it comes.
+fn is_refused(cell: &TurnCell<Tally>, seat: &mut Seat<Tally>) -> bool
+    requires cell { seat.old.cell ≡ cell.now }
+    requires outside { seat.old.inside ≡ false }
+    ensures { HasWorked seat.old seat.new }
+{
+    match cell.try_enter(seat) {
+        None => true,
+        Some(turn) => {
+            cell.leave(turn, seat);
+            false
+        }
+    }
+}
+
+// The entries that a seat finds at its turn, if it comes at once: how many there are, and the last.
+fn found_by(cell: &TurnCell<Tally>, seat: &mut Seat<Tally>) -> Option<(usize, Entry)>
+    requires cell { seat.old.cell ≡ cell.now }
+    requires outside { seat.old.inside ≡ false }
+    ensures { HasWorked seat.old seat.new }
+{
+    let turn = cell.try_enter(seat)?;
+    let entries = turn.value().entries();
+    let found = entries.last().map(|entry| (entries.len(), *entry));
+    cell.leave(turn, seat);
+    found
+}
+
+// A cell with its two seats.
+struct Pair {
+    cell: TurnCell<Tally>,
+    first: Seat<Tally>,
+    second: Seat<Tally>,
+}
+
+fn make_pair(alloc: Global) -> Option<Pair>
+    ensures cell { IfSome result (λ p. p.cell.seats ≡ 2) }
+    ensures first { IfSome result (λ p. p.first ≡ new_seat p.cell 1 9) }
+    ensures second { IfSome result (λ p. p.second ≡ new_seat p.cell 2 9) }
+{
+    let Ok((cell, mut seats)) = TurnCell::new(alloc, Tally::new(alloc, 9), 2) else {
+        return None;
+    };
+    let Some(second) = seats.pop() else {
+        unreachable!()
+    };
+    let Some(first) = seats.pop() else {
+        unreachable!()
+    };
+    Some(Pair {
+        cell,
+        first,
+        second,
+    })
+}
+
+// What came of the tries, what the second seat found, and the tally.
+fn play(pair: Pair) -> ([bool; 3], Option<(usize, Entry)>, Tally)
+    requires cell { pair.cell.seats ≡ 2 }
+    requires first { pair.first ≡ new_seat pair.cell 1 9 }
+    requires second { pair.second ≡ new_seat pair.cell 2 9 }
+    ensures { result.2.limit ≡ 9 }
+{
+    let Pair {
+        cell,
+        mut first,
+        mut second,
+    } = pair;
+    let tries = try_both(&cell, &mut first, &mut second);
+    let found = found_by(&cell, &mut second);
+    cell.join(&mut first, second);
+    (tries, found, cell.end(first))
+}
+
+#[test]
+fn a_seat_waits_for_the_turn_of_another(rt: HostRuntime) -> Result<(), Fail> {
+    let (tries, found, tally) = play(make_pair(rt.alloc()).ok_or("memory")?);
+    assert_eq!(rt; tries, [true; 3]);
+    assert_eq!(rt; found, Some((1, Entry { seat: 1, number: 7 })));
+    assert_eq!(rt; tally.greatest(), 7);
+    assert_eq!(rt; tally.limit(), 9);
+    Ok(())
+}
+
+#[test]
+fn a_tally_begins_anew(rt: HostRuntime) -> Result<(), Fail> {
+    let mut tally = Tally::new(rt.alloc(), 9);
+    tally.append(1, 9)?;
+    tally.clear();
+    tally.set_limit(5);
+    tally.append(2, 5)?;
+    assert_eq!(rt; tally.entries(), [Entry { seat: 2, number: 5 }].as_slice());
+    assert_eq!(rt; tally.greatest(), 5);
+    assert_eq!(rt; tally.limit(), 5);
+    Ok(())
+}
+
+// Whether the numbers of this seat's entries are 1, 2 and so on, up to `last`.
+fn is_in_order(entries: &[Entry], seat: u64, last: u64) -> bool {
+    let mut number = 0u64;
+    for entry in entries {
+        if entry.seat == seat {
+            if number == last || entry.number != number + 1 {
+                return false;
+            }
+            number += 1;
+        }
+    }
+    number == last
+}
+
+#[test]
+fn each_worker_has_its_turns(rt: HostRuntime) -> Result<(), Fail> {
+    for workers in [1, 2, 8] {
+        let tally = tally_by_turns(&rt, rt.alloc(), workers, 1_000)?;
+        assert_eq!(rt; tally.entries().len(), workers as usize * 1_000);
+        assert_eq!(rt; tally.greatest(), 1_000);
+        for seat in 1..=u64::from(workers) {
+            assert!(rt; is_in_order(tally.entries(), seat, 1_000), "seat {seat}");
+        }
+    }
+    Ok(())
+}
