@@ -1,2 +1,4 @@
 pub mod Steps
 pub mod Sound
+pub mod Cut
+pub mod Examples

@@ -65,8 +65,15 @@ fn ends_empty(lines: &[Line]) -> bool
 }
 
 /// Whether the lines are a proof by rules of resolution: each states what its step concludes from the lines before
-/// it, in at most 4,096 symbols, and the last states the empty clause without dependencies. If so, the input has no
-/// model. Lists with steps by other rules are refused for now.
+/// it, in at most 4,096 symbols, and the last states the empty clause without dependencies. If so, finitely many
+/// ground instances of the input clauses and of the axioms of equality are true under no assignment.
+///
+/// Clauses are compared atom by atom, in order and with the sides of equations as they stand. A list with a step by
+/// another rule is answered false for now.
+///
+/// # Errors
+///
+/// Only where there is no memory.
 pub fn check(alloc: Global, input: &[Clause], lines: &[Line]) -> Result<bool, AllocError>
     ensures exact { IfOk result (λ yes. IsTrue yes ↔ (Checked input.now lines.now × AreByResolution lines.now)) }
     ensures sound { IfOk result (λ yes. IsTrue yes → Refuted input.now) }

@@ -124,8 +124,15 @@ fn concluded(
     }
 }
 
-/// What the step concludes from the input clauses and the earlier statements, where its rule is one of resolution;
-/// nothing where the rule doesn't apply, or past 4,096 symbols. Nothing yet by the other rules.
+/// What the step concludes from the input clauses and the earlier statements, by the rules of resolution: input,
+/// resolution (Weidenbach 2001) and an instance with repeated atoms dropped.
+///
+/// Input clauses and statements are numbered from 1. Nothing is concluded where the rule doesn't apply, where a
+/// parent isn't there or their number is not the rule's, and past 4,096 symbols; nor, yet, by the other rules.
+///
+/// # Errors
+///
+/// Only where there is no memory.
 #[tactic(auto, using(crate::proofs::Steps::parent_rules))]
 pub fn conclude(
     alloc: Global,
@@ -147,6 +154,10 @@ pub fn conclude(
 }
 
 /// `conclude` where the earlier statements are those of lines.
+///
+/// # Errors
+///
+/// Only where there is no memory.
 #[tactic(auto, using(crate::proofs::Steps::parent_rules))]
 pub fn conclude_from_lines(
     alloc: Global,

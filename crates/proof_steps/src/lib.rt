@@ -1,4 +1,8 @@
 //! Steps of proofs: what a step concludes, and which lists of lines are proofs.
+//!
+//! `specs/Steps.antt` has what each of the ten rules concludes, `specs/Spots.antt` and `specs/Parts.antt` its words on
+//! subterms and on splits, `specs/Checked.antt` when a list of lines is a proof, and `proofs/Examples.antt` what the
+//! rules give on small clauses. The code covers the rules of resolution: input, resolution and factoring.
 #![tactic(auto)]
 
 mod checking;
@@ -6,6 +10,8 @@ mod concluding;
 mod lookup;
 mod resolving;
 mod step;
+#[cfg(test)]
+mod tests;
 
 pub use checking::{check, follow, refutes};
 pub use concluding::{conclude, conclude_from_lines};

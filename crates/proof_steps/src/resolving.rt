@@ -224,8 +224,12 @@ pub fn may_resolve_lines(i: u32, part: Part, j: u32, m: u32, n: u32, earlier: &[
 /// are without variables, and atom `i` of the first one's succedent is the same as atom `j` of that part of the
 /// second one, places counting from 0.
 ///
-/// It takes no memory where nothing is concluded. `Big` comes exactly where the conclusion has more than 4,096
-/// symbols, with the smaller of their count and 1,000,000.
+/// It takes no memory where nothing is concluded, which `may_resolve_lines` tells beforehand.
+///
+/// # Errors
+///
+/// `Big` exactly where the conclusion has more than 4,096 symbols, with the smaller of their count and 1,000,000;
+/// `Memory` only where there is no memory.
 pub fn resolve_lines(
     alloc: Global,
     i: u32,

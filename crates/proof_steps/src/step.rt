@@ -5,21 +5,26 @@ use spl_truth::Subst;
 /// A clause, and the assumptions on which it depends.
 #[derive(Debug, Drop)]
 pub struct Statement {
+    /// What is stated; a conclusion is in order: no part has two atoms that are the same, and variables count from 0
+    /// by first occurrence.
     pub clause: Clause,
+    /// The sides of splits that the statement assumes.
     pub deps: Deps,
 }
 
 /// By which rule a step concludes, and at which places.
 ///
 /// Places count from 0 in their part of the parent's instance; a substitution has one entry for each variable of
-/// its parent, `s` for the first one and `t` for the second.
+/// its parent, `s` for the first one and `t` for the second. The rules on literals are those of Weidenbach 2001,
+/// here for given substitutions; the last four are its splitting rule, as steps of one proof.
 #[derive(Debug, Drop)]
 pub enum Rule {
     /// The input clause with this number, from 1.
     Input {
         no: u32,
     },
-    /// Atom `i` of the first parent's succedent is the same as atom `j` of that part of the second parent.
+    /// Atom `i` of the first parent's succedent is the same as atom `j` of that part of the second parent, its
+    /// constraint or its antecedent; both clauses without these.
     Resolve {
         i: u32,
         part: Part,
@@ -68,16 +73,20 @@ pub enum Rule {
     CaseBoth,
 }
 
-/// A rule, and the numbers of the lines from which it concludes, from 1.
+/// A rule, and the numbers of the lines from which it concludes.
 #[derive(Debug, Drop)]
 pub struct Step {
+    /// The rule, with its places and substitutions.
     pub rule: Rule,
+    /// The numbers of the lines from which it concludes, from 1, in the order that the rule names.
     pub parents: Items<u32>,
 }
 
 /// A step, and what it states.
 #[derive(Debug, Drop)]
 pub struct Line {
+    /// How the statement is concluded from the lines before this one.
     pub step: Step,
+    /// What the line states.
     pub stated: Statement,
 }

@@ -1,6 +1,6 @@
 -- Which clause is chosen next. The rule is this project's own: mostly a smallest clause, now and then an oldest one,
 -- as in Weidenbach 2001, section on the main loop.
-use Rattle.std.specs.Prelude.{ℕ, ◌+◌, ◌%◌, Bool, ◌&&◌, ◌||◌, ◌==◌, nat_lt, if◌then◌else◌, List, fold, Option, Some, None, option_map}
+use Rattle.std.specs.Prelude.{ℕ, ◌%◌, Bool, ◌&&◌, ◌||◌, ◌==◌, nat_lt, if◌then◌else◌, List, fold, Option, Some, None, option_map}
 use Rattle.spl_truth.specs.declared.picking.Candidate.{Candidate}
 
 -- each fifth choice goes by age

@@ -1,8 +1,8 @@
 -- Lists that begin with one another, the entries of one seat, and lists of numbers.
-use Rattle.std.proofs.Common.{◌≡◌, ◌≢◌, ◌⊎◌, ℕ, ◌≤◌, List, [], ◌∷◌, ◌++◌, length, cond, refl, sym, ap, ◌∙◌, ⊎_elim, inl, inr, arith, ne_eqb, append_assoc, append-nil, length-append}
+use Rattle.std.proofs.Common.{◌≡◌, ◌≢◌, ◌⊎◌, ℕ, ◌≤◌, ◌<◌, List, [], ◌∷◌, ◌++◌, length, cond, refl, sym, ap, ◌∙◌, subst, ⊎_elim, inl, inr, arith, ne_eqb, append_assoc, append-nil, length-append}
 use Rattle.std.specs.Prelude.{All, ◌==◌}
-use Rattle.std.proofs.lemmas.List.Elements.{All-head, All-tail, filter-append}
-use Rattle.turn_cell.specs.Lists.{BeginsWith, entries_of, Appends, Among}
+use Rattle.std.proofs.lemmas.List.Elements.{All-head, All-tail, All-append, filter-append}
+use Rattle.turn_cell.specs.Lists.{BeginsWith, entries_of, Appends, Among, IsOfSeats}
 
 module _ {E : Type 0} where
   pub begins_itself : (xs : List E) → BeginsWith xs xs
@@ -20,6 +20,11 @@ module _ {E : Type 0} where
       let here = All-head (λ e. by e ≡ m) y ys all in
       ap (λ b. cond b (y ∷ entries_of by n ys) (entries_of by n ys)) (ne_eqb (by y) n (λ e. apart (sym e ∙ here)))
       ∙ entries_of-others by n m ys apart (All-tail (λ e. by e ≡ m) y ys all)
+
+  -- what a seat appends is of a seat
+  pub appends-ours : (by : E → ℕ) (n seats : ℕ) (old new : List E) → 0 < n → n ≤ seats → Appends by n old new → IsOfSeats by seats old → IsOfSeats by seats new
+  appends-ours by n seats old new low high h ours = subst (IsOfSeats by seats) (sym h.1)
+      (All-append (λ e. (0 < by e) × (by e ≤ seats)) old h.0 ours (λ k d l. subst (λ m. (0 < m) × (m ≤ seats)) (sym (h.2 k d l)) (low, high)))
 
   -- what another seat appends leaves the entries of this one
   pub appends-others : (by : E → ℕ) (n m : ℕ) (less more : List E) → n ≢ m → Appends by m less more → entries_of by n more ≡ entries_of by n less

@@ -9,9 +9,9 @@ use prog.Atomic.{either}
 use Rattle.atomic_table.specs.Table.{State, Me, Step, Act, keeps, takes, gives, stepped, carried_after, Valid, Allows, rest}
 use Rattle.atomic_table.proofs.Lists.{set_else, exchanged}
 use Rattle.turn_cell.specs.declared.view.View.{View}
-use Rattle.turn_cell.specs.Lists.{BeginsWith, entries_of, Among, Appends, Continues}
+use Rattle.turn_cell.specs.Lists.{BeginsWith, entries_of, Among, Appends, Continues, IsOfSeats}
 use Rattle.turn_cell.specs.Rule.{entered, refused, grown, outside, Fits, Holds, Sat, Enters, Stores, Leaves}
-use Rattle.turn_cell.proofs.Lists.{begins_nothing, begins_itself, begins_trans, appends-others}
+use Rattle.turn_cell.proofs.Lists.{begins_nothing, begins_itself, begins_trans, appends-others, appends-ours}
 use Rattle.turn_cell.proofs.Views.{same_there, set_there, each_set}
 
 -- the view in the turn is another than one that is outside
@@ -82,6 +82,7 @@ module _ {T E G : Type 0} (told : T → List E) (by : E → ℕ) (set_of : T →
               g = h.g;
               owner = h.owner;
               words = same ∙ h.words;
+              ours = h.ours;
               home = h.home;
               out = h.out;
               holder = λ _. dite (ℕ_discrete h.at id) (λ e. again o e) (λ e. (o.0, set_else s.views id h.at w e ∙ o.1, o.2, o.3, o.4));
@@ -136,6 +137,7 @@ module _ {T E G : Type 0} (told : T → List E) (by : E → ℕ) (set_of : T →
               g = h.g;
               owner = h.owner;
               words = ap (λ ws. slice_set ws 0 v.number) h.words;
+              ours = h.ours;
               home = λ none. absurd (omega arith);
               out = λ _. ap (λ hs. slice_set hs 0 none) home.1;
               holder = λ _. (w, set_there s.views id v w at, refl, refl, refl);
@@ -164,7 +166,7 @@ module _ {T E G : Type 0} (told : T → List E) (by : E → ℕ) (set_of : T →
                   });
             },
             (
-              (λ _. (x, refl, (away, fit.same ∙ ap Some (sym home.3), (subst (λ l. BeginsWith l v.seen) (sym home.2) fit.begins, λ n k. ap (entries_of by n) home.2 ∙ sym (fit.kept n k).3)))),
+              (λ _. (x, refl, (away, fit.same ∙ ap Some (sym home.3), (subst (λ l. BeginsWith l v.seen) (sym home.2) fit.begins, λ n k. ap (entries_of by n) home.2 ∙ sym (fit.kept n k).3), subst (λ n. IsOfSeats by n (told x)) (sym count) (subst (IsOfSeats by seats) (sym home.2) h.ours)))),
               λ far. absurd (far z),
             ),
           )
@@ -189,6 +191,7 @@ module _ {T E G : Type 0} (told : T → List E) (by : E → ℕ) (set_of : T →
           g = h.g;
           owner = h.owner;
           words = ap (λ ws. slice_set ws 1 (length list)) h.words;
+          ours = appends-ours by v.number seats h.all list p (fit.kept v.number fit.own).1 more h.ours;
           home = λ none. let n : v.number ≡ h.turn = mine.1 in absurd (omega arith);
           out = h.out;
           holder = λ far. (w, subst (λ k. get_elem? (set s.views id w) k ≡ some w) mine.0 (set_there s.views id v w at), refl, inside, mine.1);
@@ -241,6 +244,7 @@ module _ {T E G : Type 0} (told : T → List E) (by : E → ℕ) (set_of : T →
           g = h.g;
           owner = h.owner;
           words = ap (λ ws. slice_set ws 0 0) h.words;
+          ours = h.ours;
           home = λ _. (x, put s.homes (h.out taken), is ∙ mine.2, some_same _ _ (sym same ∙ fit.same));
           out = λ far. absurd (far refl);
           holder = λ far. absurd (far refl);

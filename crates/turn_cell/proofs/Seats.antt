@@ -1,6 +1,7 @@
 -- Dealing and joining seats keeps the rule of the cell, and what it says at the end.
-use Rattle.std.proofs.Common.{◌≡◌, ◌≢◌, ℕ, zero, suc, ◌+◌, ◌<◌, List, [], ◌∷◌, length, set, ◌-◌, cond, eqb, Bool, true, false, true≢false, refl, sym, ap, ◌∙◌, subst, ⊎_elim, inl, inr, arith, eq-eqb, ne_eqb, add-one}
+use Rattle.std.proofs.Common.{◌≡◌, ◌≢◌, ℕ, zero, suc, ◌+◌, ◌<◌, ◌≤◌, List, [], ◌∷◌, length, set, ◌-◌, cond, eqb, Bool, true, false, true≢false, refl, sym, ap, ◌∙◌, subst, ⊎_elim, inl, inr, arith, eq-eqb, ne_eqb, add-one}
 use Rattle.std.specs.Prelude.{Option, Some, None, slice_index, slice_set, nat_lt}
+use Rattle.std.proofs.lemmas.List.Elements.{All-nil}
 use mathlib.Core.Logic.{dite}
 use native.Mathlib.Decide.{ℕ_discrete}
 use mathlib.Core.Option.{some, some-injective, some-ne-none}
@@ -10,7 +11,7 @@ use Rattle.atomic_table.proofs.Lists.{set_again, set_else, at_longer}
 use Rattle.std.proofs.lemmas.Bool.Decides.{nat_tests}
 use Rattle.atomic_table.specs.Seated.{TableId}
 use Rattle.turn_cell.specs.declared.view.View.{View}
-use Rattle.turn_cell.specs.Lists.{BeginsWith, entries_of, Among, Continues, HasAllSeats, longer}
+use Rattle.turn_cell.specs.Lists.{BeginsWith, entries_of, Among, Continues, HasAllSeats, IsOfSeats, longer}
 use Rattle.turn_cell.specs.Seats.{Cell, SeatSeen, new_seat}
 use Rattle.turn_cell.specs.Rule.{AllApart, count_up, first_view, dealt_from, dealt, second, without_second, both, spent_view, Looks, cell_of, seat_seen, others, dealing, Fits, Holds, Sat, Sits}
 use Rattle.turn_cell.proofs.Moves.{elsewhere}
@@ -38,6 +39,7 @@ module _ {T E G : Type 0} (told : T → List E) (by : E → ℕ) (set_of : T →
     g = set_of x;
     owner = λ _. 0;
     words = refl;
+    ours = All-nil (λ e. (0 < by e) × (by e ≤ seats));
     home = λ _. (x, refl, empty, refl);
     out = λ far. absurd (far refl);
     holder = λ far. absurd (far refl);
@@ -88,6 +90,7 @@ module _ {T E G : Type 0} (told : T → List E) (by : E → ℕ) (set_of : T →
         g = h.g;
         owner = owner;
         words = h.words;
+        ours = h.ours;
         home = h.home;
         out = h.out;
         holder = λ far. let o = h.holder far in
@@ -168,6 +171,7 @@ module _ {T E G : Type 0} (told : T → List E) (by : E → ℕ) (set_of : T →
         g = h.g;
         owner = owner;
         words = h.words;
+        ours = h.ours;
         home = h.home;
         out = h.out;
         holder = λ z. let o = h.holder z in
@@ -211,14 +215,14 @@ module _ {T E G : Type 0} (told : T → List E) (by : E → ℕ) (set_of : T →
 
   -- what is known at the end, of the value at home
   abbrev pub Ends : V → State (Option T) V → Type 0
-  Ends v s = (x : T) × (s.homes ≡ some (Some x) ∷ []) × (v.setting ≡ Some (set_of x)) × Continues by v.keeps v.seen (told x)
+  Ends v s = (x : T) × (s.homes ≡ some (Some x) ∷ []) × (v.setting ≡ Some (set_of x)) × Continues by v.keeps v.seen (told x) × IsOfSeats by seats (told x)
 
   pub ends : (id : ℕ) (v : V) (s : St) → v.spent ≡ false → v.inside ≡ false → HasAllSeats seats v.keeps → Seen Rule id v s → Ends v s
   ends id v s live out all seen =
       let h = seen.0 in
       let fit = h.views id v seen.1 live in
       let home = h.home (free h fit) in
-      (home.0, home.1, fit.same ∙ ap Some (sym home.3), (subst (λ l. BeginsWith l v.seen) (sym home.2) fit.begins, λ n a. ap (entries_of by n) home.2 ∙ sym (fit.kept n a).3))
+      (home.0, home.1, fit.same ∙ ap Some (sym home.3), (subst (λ l. BeginsWith l v.seen) (sym home.2) fit.begins, λ n a. ap (entries_of by n) home.2 ∙ sym (fit.kept n a).3), subst (IsOfSeats by seats) (sym home.2) h.ours)
     where
       taken : (h : Rule s) → Fits by seats h.turn h.at h.all h.g h.owner id v → h.turn ≢ 0 → ⊥
       taken h fit far =
@@ -260,19 +264,19 @@ option_or d (Some x) = x
 module _ {T E G : Type 0} (told : T → List E) (by : E → ℕ) (set_of : T → G) (seats : ℕ) where
   -- what the value is that is taken out at the end
   closes : (id : ℕ) (v : View E G) (ws : List ℕ) (xs : List (Option T)) (r : Option T) → v.spent ≡ false → v.inside ≡ false → HasAllSeats seats v.keeps → Final (Seen (Holds told by set_of seats) id v) ws xs → get_elem? xs 0 ≡ some r
-      → (x : T) × (r ≡ Some x) × (v.setting ≡ Some (set_of x)) × Continues by v.keeps v.seen (told x)
+      → (x : T) × (r ≡ Some x) × (v.setting ≡ Some (set_of x)) × Continues by v.keeps v.seen (told x) × IsOfSeats by seats (told x)
   closes id v ws xs r live out all f at =
       let e = ends told by set_of seats id v f.0 live out all f.1 in
       let there = f.4 0 (Some e.0) (subst (λ hs. get_elem? hs 0 ≡ some (some (Some e.0))) (sym e.1) refl) in
-      (e.0, some-injective r (Some e.0) (sym at ∙ there), e.2, e.3)
+      (e.0, some-injective r (Some e.0) (sym at ∙ there), e.2, e.3, e.4)
 
   pub closes_full : (id : ℕ) (v : View E G) (ws : List ℕ) (xs : List (Option T)) (r : Option T) → v.spent ≡ false → v.inside ≡ false → HasAllSeats seats v.keeps → Final (Seen (Holds told by set_of seats) id v) ws xs → get_elem? xs 0 ≡ some r → r ≡ None → ⊥
   closes_full id v ws xs r live out all f at is = let c = closes id v ws xs r live out all f at in let e : None ≡ Some c.0 = sym is ∙ c.1 in cc
 
   pub closes_with : (id : ℕ) (v : View E G) (ws : List ℕ) (xs : List (Option T)) (r : Option T) (y : T) → v.spent ≡ false → v.inside ≡ false → HasAllSeats seats v.keeps → Final (Seen (Holds told by set_of seats) id v) ws xs → get_elem? xs 0 ≡ some r → r ≡ Some y
-      → (v.setting ≡ Some (set_of y)) × Continues by v.keeps v.seen (told y)
+      → (v.setting ≡ Some (set_of y)) × Continues by v.keeps v.seen (told y) × IsOfSeats by seats (told y)
   closes_with id v ws xs r y live out all f at is = let c = closes id v ws xs r live out all f at in
-      subst (λ x. (v.setting ≡ Some (set_of x)) × Continues by v.keeps v.seen (told x)) (value c.0 y (sym c.1 ∙ is)) (c.2, c.3)
+      subst (λ x. (v.setting ≡ Some (set_of x)) × Continues by v.keeps v.seen (told x) × IsOfSeats by seats (told x)) (value c.0 y (sym c.1 ∙ is)) (c.2, c.3, c.4)
     where
       value : (a b : T) → Some a ≡ Some b → a ≡ b
       value a b e = ap (option_or a) e

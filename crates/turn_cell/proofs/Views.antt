@@ -46,4 +46,3 @@ among_first (suc m) l = inl refl
 pub apart-append : (xs ys : List ℕ) → AllApart xs → AllApart ys → ((n : ℕ) → Among n xs → Among n ys → ⊥) → AllApart (xs ++ ys)
 apart-append [] ys p q d = q
 apart-append (x ∷ xs) ys p q d = ((λ a. ⊎_elim (λ l. p.0 l) (λ r. d x (inl refl) r) (among-append x xs ys a)), apart-append xs ys p.1 q (λ n a b. d n (inr a) b))
-

@@ -26,6 +26,10 @@ HasAllSeats seats numbers = (n : ℕ) → 0 < n → n ≤ seats → Among n numb
 abbrev pub Continues : {E : Type 0} → (E → ℕ) → List ℕ → List E → List E → Type 0
 Continues by numbers old new = BeginsWith new old × ((n : ℕ) → Among n numbers → entries_of by n new ≡ entries_of by n old)
 
+-- each entry is of a seat with a number from 1 to `seats`
+abbrev pub IsOfSeats : {E : Type 0} → (E → ℕ) → ℕ → List E → Type 0
+IsOfSeats by seats es = All (λ e. (0 < by e) × (by e ≤ seats)) es
+
 -- the longer of two lists, the first where they are as long
 abbrev pub longer : {E : Type 0} → List E → List E → List E
 longer xs ys = cond (nat_lt (length xs) (length ys)) ys xs

@@ -6,7 +6,7 @@ use lib.ListN.{get_elem?}
 use Rattle.atomic_table.specs.Table.{State, Me, Step, rest}
 use Rattle.atomic_table.specs.Seated.{TableId}
 use Rattle.turn_cell.specs.declared.view.View.{View}
-use Rattle.turn_cell.specs.Lists.{BeginsWith, entries_of, Among, Continues, longer}
+use Rattle.turn_cell.specs.Lists.{BeginsWith, entries_of, Among, Continues, IsOfSeats, longer}
 use Rattle.turn_cell.specs.Seats.{Cell, SeatSeen, new_seat}
 
 -- the numbers from k on, n of them
@@ -89,6 +89,8 @@ pub record Holds {T E G : Type 0} (told : T → List E) (by : E → ℕ) (settin
   pub g : G
   pub owner : ℕ → ℕ
   pub words : s.words ≡ turn ∷ length all ∷ []
+  -- no entry is of a number that no seat has
+  pub ours : IsOfSeats by seats all
   -- where no seat is in the turn, the value is at home, with that list and that setting
   pub home : turn ≡ 0 → (x : T) × (s.homes ≡ some (Some x) ∷ []) × (told x ≡ all) × (setting x ≡ g)
   -- else it is out, and the view at `at` is in the turn
@@ -103,7 +105,7 @@ Sat T E G = Me (Option T) (View E G)
 
 -- what a view knows of the value at home
 abbrev pub Finds : {T E G : Type 0} → (T → List E) → (E → ℕ) → (T → G) → View E G → T → Type 0
-Finds told by setting v x = (v.inside ≡ false) × (v.setting ≡ Some (setting x)) × Continues by v.keeps v.seen (told x)
+Finds told by setting v x = (v.inside ≡ false) × (v.setting ≡ Some (setting x)) × Continues by v.keeps v.seen (told x) × IsOfSeats by v.seats (told x)
 
 -- the number n, found in the turn word, is that of a seat of the cell: its own where it is in the turn, and else none of those that it keeps
 abbrev pub FindsTaken : {E G : Type 0} → View E G → ℕ → Type 0

@@ -1,6 +1,6 @@
 //! The cell.
 ghost use Rattle.std.specs.Prelude.{◌≡◌, ℕ, ◌+◌, ◌-◌, ◌<◌, ◌≤◌, vec_capacity, true, false, MatchOption, IfSome, IfNone, Some, [], ◌∷◌, IfOk, IfErr, vec_len, slice_get, length};
-ghost use Rattle.turn_cell.specs.Lists.{Appends, Continues, HasAllSeats};
+ghost use Rattle.turn_cell.specs.Lists.{Appends, Continues, HasAllSeats, IsOfSeats};
 ghost use Rattle.turn_cell.specs.Seats.{had, new_seat, in_turn, after_turn, joined_with, turn_of, HoldsTurn};
 ghost use Rattle.turn_cell.specs.Rule.{grown, cell_of, Row, dealing};
 
@@ -146,6 +146,7 @@ impl<T: Told> TurnCell<T> {
         ensures turn { IfSome result (λ t. t ≡ turn_of seat.old t.value (T.told t.value)) }
         ensures setting { IfSome result (λ t. seat.old.setting ≡ Some (T.setting t.value)) }
         ensures list { IfSome result (λ t. Continues T.seat_of (had seat.old) seat.old.seen (T.told t.value)) }
+        ensures ours { IfSome result (λ t. IsOfSeats T.seat_of seat.old.cell.seats (T.told t.value)) }
     {
         let shared = &self.table.shared;
         let found = shared.compare_exchange::<Enter<T>>(&mut seat.token, 0, 0, seat.number);
@@ -167,6 +168,7 @@ impl<T: Told> TurnCell<T> {
         ensures turn { result ≡ turn_of seat.old result.value (T.told result.value) }
         ensures setting { seat.old.setting ≡ Some (T.setting result.value) }
         ensures list { Continues T.seat_of (had seat.old) seat.old.seen (T.told result.value) }
+        ensures ours { IsOfSeats T.seat_of seat.old.cell.seats (T.told result.value) }
     {
         let backoff = Backoff::new();
         for _ in rt.forever() {
@@ -216,6 +218,7 @@ impl<T: Told> TurnCell<T> {
         requires all { HasAllSeats self.seats (had last) }
         ensures setting { last.setting ≡ Some (T.setting result) }
         ensures list { Continues T.seat_of (had last) last.seen (T.told result) }
+        ensures ours { IsOfSeats T.seat_of self.seats (T.told result) }
     {
         let TurnCell { table } = self;
         let Seat { number: _, token } = last;

@@ -7,9 +7,8 @@ mod tally;
 mod work;
 
 pub use entry::Entry;
-pub use finished::Finished;
 pub use tally::Tally;
-pub use work::{append_once, enter_at_once, tally_by_turns};
+pub use work::{append_once, enter_at_once, greatest_at_turn, tally_by_turns};
 
 #[cfg(test)]
 mod tests;

@@ -4,6 +4,7 @@ ghost use Rattle.turn_tally.specs.Runs.{HasWorked};
 
 use super::*;
 use std::alloc::Global;
+use std::sync::Wait;
 use std::test::*;
 use turn_cell::{Seat, TurnCell};
 
@@ -79,12 +80,20 @@ fn make_pair(alloc: Global) -> Option<Pair>
     })
 }
 
-// What came of the tries, what the second seat found, and the tally.
-fn play(pair: Pair) -> ([bool; 3], Option<(usize, Entry)>, Tally)
+// What came of the tries, what the second seat found, what the first one found afterwards, and the tally.
+#[derive(Drop)]
+struct Played {
+    tries: [bool; 3],
+    found: Option<(usize, Entry)>,
+    greatest: u64,
+    tally: Tally,
+}
+
+fn play<R: Wait>(rt: &R, pair: Pair) -> Played
     requires cell { pair.cell.seats ≡ 2 }
     requires first { pair.first ≡ new_seat pair.cell 1 9 }
     requires second { pair.second ≡ new_seat pair.cell 2 9 }
-    ensures { result.2.limit ≡ 9 }
+    ensures { result.tally.limit ≡ 9 }
 {
     let Pair {
         cell,
@@ -93,17 +102,27 @@ fn play(pair: Pair) -> ([bool; 3], Option<(usize, Entry)>, Tally)
     } = pair;
     let tries = try_both(&cell, &mut first, &mut second);
     let found = found_by(&cell, &mut second);
+    let greatest = greatest_at_turn(rt, &cell, &mut first);
     cell.join(&mut first, second);
-    (tries, found, cell.end(first))
+    let turn = enter_at_once(&cell, &mut first);
+    cell.leave(turn, &mut first);
+    let tally = cell.end(first);
+    Played {
+        tries,
+        found,
+        greatest,
+        tally,
+    }
 }
 
 #[test]
 fn a_seat_waits_for_the_turn_of_another(rt: HostRuntime) -> Result<(), Fail> {
-    let (tries, found, tally) = play(make_pair(rt.alloc()).ok_or("memory")?);
-    assert_eq!(rt; tries, [true; 3]);
-    assert_eq!(rt; found, Some((1, Entry { seat: 1, number: 7 })));
-    assert_eq!(rt; tally.greatest(), 7);
-    assert_eq!(rt; tally.limit(), 9);
+    let played = play(&rt, make_pair(rt.alloc()).ok_or("memory")?);
+    assert_eq!(rt; played.tries, [true; 3]);
+    assert_eq!(rt; played.found, Some((1, Entry { seat: 1, number: 7 })));
+    assert_eq!(rt; played.greatest, 7);
+    assert_eq!(rt; played.tally.greatest(), 7);
+    assert_eq!(rt; played.tally.limit(), 9);
     Ok(())
 }
 

@@ -1,9 +1,9 @@
 //! Workers that share one tally by turns.
-ghost use Rattle.std.specs.Prelude.{◌≡◌, ℕ, ◌+◌, ◌<◌, ◌≤◌, ◌++◌, ◌∷◌, [], true, false, Some, IfOk, OnOk, OnErr, slice_get, vec_len};
+ghost use Rattle.std.specs.Prelude.{◌≡◌, ℕ, ◌+◌, ◌*◌, ◌<◌, ◌≤◌, ◌++◌, ◌∷◌, [], true, false, Some, IfOk, OnOk, OnErr, slice_get, vec_len, length};
 ghost use Rattle.std.specs.Thread.{IsSync};
 ghost use Rattle.turn_cell.specs.Lists.{Continues, entries_of, HasAllSeats};
-ghost use Rattle.turn_cell.specs.Seats.{had, new_seat};
-ghost use Rattle.turn_tally.specs.Tallies.{entry, numbered, seat_of};
+ghost use Rattle.turn_cell.specs.Seats.{had, in_turn, new_seat, turn_of};
+ghost use Rattle.turn_tally.specs.Tallies.{entry, greatest_of, numbered, seat_of};
 ghost use Rattle.turn_tally.specs.Runs.{HasWorked, IsDone};
 
 use crate::finished::Finished;
@@ -31,6 +31,20 @@ pub fn append_once<R: Wait>(
     let appended = turn.value_mut().append(seat.number(), number);
     cell.leave(turn, seat);
     appended
+}
+
+/// One turn, in which the seat asks for the greatest number. Whoever wrote it down, it is that of the list that the seat has then seen.
+pub fn greatest_at_turn<R: Wait>(rt: &R, cell: &TurnCell<Tally>, seat: &mut Seat<Tally>) -> u64
+    requires cell { seat.old.cell ≡ cell.now }
+    requires outside { seat.old.inside ≡ false }
+    ensures seat { HasWorked seat.old seat.new }
+    ensures greatest { result ≡ greatest_of seat.new.seen }
+    ensures limit { (limit : ℕ) → seat.old.setting ≡ Some limit → result ≤ limit }
+{
+    let turn = cell.enter(rt, seat);
+    let greatest = turn.value().greatest();
+    cell.leave(turn, seat);
+    greatest
 }
 
 // The turns of one worker, which appends the entries 1 to `turns`.
@@ -102,7 +116,7 @@ fn work_all<R: Threads + Wait + Sync>(
     merge(cell, all, one)
 }
 
-/// Workers in threads of their own share one tally by turns, and each appends entries with the numbers 1 to `turns`. Whatever order the turns come in, of each worker's seat the tally that comes back has just these, in order.
+/// Workers in threads of their own share one tally by turns, and each appends entries with the numbers 1 to `turns`. Whatever order the turns come in, of each worker's seat the tally that comes back has just these, in order, and nothing else.
 pub fn tally_by_turns<R: Threads + Wait + Sync>(
     rt: &R,
     alloc: Global,
@@ -112,6 +126,7 @@ pub fn tally_by_turns<R: Threads + Wait + Sync>(
     requires some { 0 < workers }
     ensures limit { IfOk result (λ t. t.limit ≡ turns) }
     ensures entries { IfOk result (λ t. (k : ℕ) → 0 < k → k ≤ workers → entries_of seat_of k t.entries ≡ numbered k turns) }
+    ensures count { IfOk result (λ t. length t.entries ≡ workers * turns) }
 {
     let Ok((cell, seats)) = TurnCell::new(alloc, Tally::new(alloc, u64::from(turns)), workers)
     else {
@@ -127,6 +142,9 @@ pub fn enter_at_once<T: Told>(cell: &TurnCell<T>, seat: &mut Seat<T>) -> Turn<T>
     requires cell { seat.old.cell ≡ cell.now }
     requires outside { seat.old.inside ≡ false }
     requires all { HasAllSeats cell.now.seats (had seat.old) }
+    ensures seat { seat.new ≡ in_turn seat.old (T.told result.value) }
+    ensures turn { result ≡ turn_of seat.old result.value (T.told result.value) }
+    ensures setting { seat.old.setting ≡ Some (T.setting result.value) }
     ensures list { Continues T.seat_of (had seat.old) seat.old.seen (T.told result.value) }
 {
     let Some(turn) = cell.try_enter(seat) else {
