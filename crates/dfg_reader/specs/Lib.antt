@@ -4,3 +4,4 @@ pub mod Terms
 pub mod GroundClauses
 pub mod Clauses
 pub mod Problems
+pub mod Written

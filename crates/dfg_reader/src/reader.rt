@@ -3,6 +3,7 @@
 ghost use Rattle.std.specs.Prelude.{◌≡◌, ◌<◌, ◌^◌, length, IfOk};
 ghost use Rattle.dfg_reader.specs.Reading.{Gives};
 ghost use Rattle.dfg_reader.specs.GroundClauses.{clauses, HasLimits, AreInOrder};
+ghost use Rattle.dfg_reader.specs.Written.{AreSpelledIn};
 ghost use Rattle.dfg_reader.specs.Problems.{head_at, problem_at, problem};
 
 use crate::clauses::lists;
@@ -54,13 +55,16 @@ fn problem(alloc: Global, bytes: &[u8], tokens: &[Token]) -> Result<Problem, Inp
 /// `docs/grammar.md`).
 ///
 /// The bytes are fewer than 2^32. The problem's clauses are at most 65,536 and each has at most 4,096 symbols, as
-/// [`clauses_of`](crate::clauses_of) asks; they are in order: without repeated atoms, and without variables. An error is the first fault from left to right, or want of memory.
+/// [`clauses_of`](crate::clauses_of) asks; they are in order: without repeated atoms, and without variables. Each
+/// entry is spelled by the bytes: from its place on, the tokens are, byte for byte, those of the clause as it is
+/// written. An error is the first fault from left to right, or want of memory.
 #[tactic(auto, unfolding(crate::specs::Problems::problem))]
 pub fn read_problem(alloc: Global, bytes: &[u8]) -> Result<Problem, InputError>
     requires { length bytes.now < 2 ^ 32 }
     ensures exact { Gives (λ p. p) result (problem bytes.now) }
     ensures limits { IfOk result (λ p. HasLimits p.entries) }
     ensures ordered { IfOk result (λ p. AreInOrder (clauses p.entries)) }
+    ensures spelled { IfOk result (λ p. AreSpelledIn bytes.now p.signature p.entries) }
 {
     let tokens = tokens_of(alloc, bytes)?;
     problem(alloc, bytes, tokens.as_slice())

@@ -1,2 +1,3 @@
 pub mod Skip
 pub mod Texts
+pub mod OwnBytes

@@ -1,6 +1,6 @@
 -- Bytes as tokens (SPASS Input Syntax 1.5).
-use Rattle.std.specs.Prelude.{◌≡◌, ℕ, zero, suc, ◌+◌, ◌-◌, Bool, true, false, ◌&&◌, ◌||◌, ◌==◌, nat_le, ◌≤◌, ◌<◌, if◌then◌else◌, List, [], ◌∷◌, length, take, drop, Option, Some, None, option_map}
-use Rattle.std.specs.List.{position_or_len}
+use Rattle.std.specs.Prelude.{◌≡◌, ℕ, zero, suc, ◌+◌, ◌-◌, Bool, true, false, ◌&&◌, ◌||◌, ◌==◌, nat_le, ◌≤◌, ◌<◌, if◌then◌else◌, List, [], ◌∷◌, length, take, drop, Option, Some, None, option_map, ⊤}
+use Rattle.std.specs.List.{position_or_len, AllByRecursion}
 use Rattle.dfg_tokens.specs.declared.piece.Mark.{Mark}
 use Rattle.dfg_tokens.specs.declared.piece.Mark.TheVariants as marks
 use Rattle.dfg_tokens.specs.declared.piece.TokenKind.{TokenKind}
@@ -102,3 +102,21 @@ tokens = tokens_from 0 0
 -- What is known to one who is told that no text can close any more: no `*}` follows the first byte.
 abbrev pub IsWarned : Bool → List ℕ → Type 0
 IsWarned may_close bytes = may_close ≡ false → closing (drop 1 bytes) ≡ None
+
+-- ---- what a token says of its bytes
+
+-- the bytes of a token
+abbrev pub token_bytes : List ℕ → Token → List ℕ
+token_bytes bytes t = take t.len (drop t.at bytes)
+
+-- an identifier is the word that it spells, and a mark is its one byte
+abbrev pub IsSpelled : TokenKind → List ℕ → Type 0
+IsSpelled (kinds.Word w) text = word_of text ≡ w
+IsSpelled (kinds.Mark m) text = text ≡ byte_of m ∷ []
+IsSpelled _ text = ⊤
+
+abbrev pub IsTokenOf : List ℕ → Token → Type 0
+IsTokenOf bytes t = IsSpelled t.kind (token_bytes bytes t)
+
+abbrev pub AreTokensOf : List ℕ → List Token → Type 0
+AreTokensOf bytes = AllByRecursion (IsTokenOf bytes)

@@ -6,6 +6,8 @@
 #![tactic(auto)]
 
 mod piece;
+#[cfg(test)]
+mod tests;
 mod token;
 mod word;
 

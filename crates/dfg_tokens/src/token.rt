@@ -1,7 +1,7 @@
 //! All tokens of the bytes.
 
 ghost use Rattle.std.specs.Prelude.{◌≡◌, ◌<◌, ◌^◌, ◌++◌, [], length, IfOk, OnOk};
-ghost use Rattle.dfg_tokens.specs.Tokens.{tokens, token_if};
+ghost use Rattle.dfg_tokens.specs.Tokens.{tokens, token_if, AreTokensOf};
 
 use crate::piece::{Piece, TokenKind, first_piece, may_still_close};
 use std::alloc::{AllocError, Global};
@@ -30,11 +30,12 @@ fn push_piece(found: &mut Vec<Token>, at: u32, next: Piece) -> Result<(), AllocE
 
 /// The tokens of the bytes in order, and at last their end (SPASS Input Syntax 1.5).
 ///
-/// An error is want of memory.
+/// Each identifier is the word that its bytes spell, and each mark its byte. An error is want of memory.
 #[tactic(auto, unfolding(crate::specs::Tokens::tokens_from), using(crate::proofs::Skip::whole))]
 pub fn tokens_of(alloc: Global, bytes: &[u8]) -> Result<Vec<Token>, AllocError>
     requires { length bytes.now < 2 ^ 32 }
-    ensures { IfOk result (λ found. found.items ≡ tokens bytes.now) }
+    ensures exact { IfOk result (λ found. found.items ≡ tokens bytes.now) }
+    ensures spelled { IfOk result (λ found. AreTokensOf bytes.now found.items) }
 {
     let mut found = Vec::new(alloc);
     let mut at: u32 = 0;
