@@ -14,6 +14,8 @@ mod picking;
 mod resolving;
 mod saturating;
 mod searching;
+#[cfg(test)]
+mod tests;
 
 pub use extracting::proof_of;
 pub use saturating::{End, Ended, Run, saturate};

@@ -6,6 +6,8 @@
 
 mod lines;
 mod lists;
+#[cfg(test)]
+mod tests;
 mod words;
 
 pub use lines::print_proof;
