@@ -1,6 +1,5 @@
 -- The cause of an answer, from what its call met, and what it says of each answer.
-use Rattle.std.proofs.Common.{◌≡◌, ◌≢◌, ◌⊎◌, inl, inr, ℕ, ◌+◌, ◌<◌, ◌≤◌, Bool, true, false, List, [], ◌++◌, length, Option, Some, None, refl, sym, ap, subst, ◌∙◌, arith}
-use Rattle.std.specs.Prelude.{IfSome, IsSomeAnd, Ok, Err, codes}
+use Rattle.std.proofs.Common.{◌≡◌, inl, inr, ℕ, List, Option, Some, None, refl, sym, subst}
 use Rattle.outside_io.specs.Outside.{Rose, CameWhole, CamePast}
 use Rattle.spl_terms.specs.declared.clause.Clause.{Clause}
 use Rattle.spl_symbols.specs.Symbols.{Declared}
@@ -10,8 +9,8 @@ use Rattle.dfg_reader.specs.GroundClauses.{clauses}
 use Rattle.prover_top.specs.declared.answers.Answer.{Answer}
 use Rattle.prover_top.specs.declared.answers.Answer.TheVariants.{ProofFound, Completion, Rounds, Size, Words, Input, TooLong, ReadFault, Memory}
 use Rattle.prover_top.specs.Words.{rounds_of}
-use Rattle.prover_top.specs.Outcomes.{Call, most_bytes, IsInput, IsRefused, IsDecided, IsTried, Fits, IsCause}
-use Rattle.prover_top.specs.Reports.{IsSolved, IsFaulty, IsUnread, IsRead}
+use Rattle.prover_top.specs.Outcomes.{Call, most_bytes, IsDecided, IsTried, IsCause}
+use Rattle.prover_top.specs.Reports.{IsRead}
 
 -- what proving gives is no refusal
 module _ (call : Call) (signature : List Declared) (proof : List Line) where

@@ -1,7 +1,6 @@
 -- What an outcome says of each answer.
-use Rattle.std.proofs.Common.{◌≡◌, ◌≢◌, ◌⊎◌, inl, inr, ℕ, ◌+◌, ◌<◌, ◌≤◌, Bool, List, [], ◌∷◌, ◌++◌, length, Option, Some, None, refl, sym, ap, subst, ◌∙◌, arith, length-append}
+use Rattle.std.proofs.Common.{◌≡◌, ◌≢◌, ◌⊎◌, inl, inr, ℕ, ◌<◌, ◌≤◌, Bool, List, ◌++◌, length, Option, Some, None, refl, sym, ap, subst, ◌∙◌, arith, length-append}
 use Rattle.std.specs.Prelude.{IfSome, IsSomeAnd, Result, Ok, Err}
-use Rattle.std.specs.Io.KnownBytes.{Consumes, IsAtEnd}
 use Rattle.std.proofs.lemmas.List.{append-nil}
 use Rattle.outside_io.specs.Outside.{Rose, CameWhole, CamePast}
 use Rattle.spl_symbols.specs.Symbols.{Declared}
@@ -15,8 +14,8 @@ use Rattle.dfg_reader.specs.Problems.{problem}
 use Rattle.prover_top.specs.declared.answers.Answer.{Answer}
 use Rattle.prover_top.specs.declared.answers.Answer.TheVariants.{ProofFound, Completion, Rounds, Size, Words, Input, TooLong, ReadFault, Memory}
 use Rattle.prover_top.specs.Words.{rounds_of}
-use Rattle.prover_top.specs.Outcomes.{Call, most_bytes, IsInput, IsRefused, IsReason, IsComplete, IsTried, Fits, IsCause}
-use Rattle.prover_top.specs.Reports.{IsOutcome, HasLines, HasProof, IsOfProving, IsUnlessMemory}
+use Rattle.prover_top.specs.Outcomes.{Call, most_bytes, IsInput, IsRefused, IsReason, IsComplete, IsTried, IsCause}
+use Rattle.prover_top.specs.Reports.{IsOutcome, HasLines, HasProof, IsOfProving, IsUnlessMemory, IsTold}
 use Rattle.prover_top.proofs.Causes.{memory}
 
 -- the cause of what is reported
@@ -158,3 +157,86 @@ module _ (call : Call) (reported : Answer) (failed : Bool) (old new : Option (Li
       let h = tried_at r o in
       let reason : IsReason h.2.rounds h.2.input r.lines r.given h.1 (Size symbols) = subst (IsReason h.2.rounds h.2.input r.lines r.given h.1) e h.2.decided.1 in
       reason.1
+
+-- ---- told bytes
+
+-- what came whole is what was told
+came_whole : (bytes came : List ℕ) (after : Option (List ℕ)) → CameWhole (Some bytes) after most_bytes came → came ≡ bytes
+came_whole bytes came None h = absurd h.0
+came_whole bytes came (Some left) h = sym (h.0 ∙ ap (λ l. came ++ l) h.1 ∙ append-nil came)
+
+came_past : (bytes : List ℕ) (after : Option (List ℕ)) → CamePast (Some bytes) after most_bytes → most_bytes < length bytes
+came_past bytes None h = absurd h.1
+came_past bytes (Some left) h =
+    let e : length bytes ≡ length (h.0 ++ left) = ap length h.1 in
+    omega (arith, length-append h.0 left, h.2)
+
+came_told : (before after : Option (List ℕ)) (bytes came : List ℕ) → before ≡ Some bytes → CameWhole before after most_bytes came → came ≡ bytes
+came_told before after bytes came e h = came_whole bytes came after (subst (λ b. CameWhole b after most_bytes came) e h)
+
+past_told : (before after : Option (List ℕ)) (bytes : List ℕ) → before ≡ Some bytes → CamePast before after most_bytes → length bytes ≤ most_bytes → ⊥
+past_told before after bytes e h small = let past = came_past bytes after (subst (λ b. CamePast b after most_bytes) e h) in absurd (omega (arith, past))
+
+both : {A B : Type 0} (r : Result A B) (a : A) (b : B) → r ≡ Ok a → r ≡ Err b → ⊥
+both r a b e f = let h : Ok a ≡ Err b = sym e ∙ f in absurd (cc)
+
+one_fault : (r : Result Problem Fault) (a b : Fault) → r ≡ Err a → r ≡ Err b → a ≡ b
+one_fault r a b e f = let h : Err a ≡ Err b = sym e ∙ f in cc
+
+module _ (call : Call) (signature : List Declared) (run : Option Run) (proof : List Line) (bytes : List ℕ) (told : IsTold call.words call.before call.faults_before call.faults_after bytes) where
+  whole : (came : List ℕ) → CameWhole call.before call.after most_bytes came → came ≡ bytes
+  whole came = came_told call.before call.after bytes came told.told
+
+  no_words : rounds_of call.words ≡ None → ⊥
+  no_words = no_fit _ told.rounds told.fits
+
+  -- a problem was read, and these bytes have a fault
+  not_read : (fault : Fault) (s : List Declared) (input : _) → problem bytes ≡ Err fault → IsInput call.before call.after s input → ⊥
+  not_read fault s input f h = both (problem bytes) h.read fault (subst (λ b. problem b ≡ Ok h.read) (whole h.bytes h.came) h.spelled) f
+
+  input_cases : (fault : Fault) (answer : Answer) → length bytes ≤ most_bytes → problem bytes ≡ Err fault → IsCause call signature run proof answer → IsUnlessMemory (Input fault) answer
+  input_cases fault ProofFound small f h = absurd (not_read fault signature h.input f h.input_is)
+  input_cases fault (Completion node kept put_off) small f h = absurd (not_read fault signature h.input f h.input_is)
+  input_cases fault (Rounds count) small f h = absurd (not_read fault signature h.input f h.input_is)
+  input_cases fault (Size symbols) small f h = absurd (not_read fault signature h.input f h.input_is)
+  input_cases fault Words small f h = absurd (no_words h.0)
+  input_cases fault (Input other) small f h = inl (ap Input (one_fault (problem bytes) other fault (subst (λ b. problem b ≡ Err other) (whole h.1.bytes h.1.came) h.1.faulty) f))
+  input_cases fault TooLong small f h = absurd (past_told call.before call.after bytes told.told h.1 small)
+  input_cases fault ReadFault small f h = absurd (told.no_fault h.1)
+  input_cases fault Memory small f h = inr refl
+
+  -- bytes came to the end, so they were no more than the limit
+  not_long : (came : List ℕ) → CameWhole call.before call.after most_bytes came → most_bytes < length bytes → ⊥
+  not_long came h long = let e : length came ≡ length bytes = ap length (whole came h) in absurd (omega (arith, e, h.2, long))
+
+  long_cases : (answer : Answer) → most_bytes < length bytes → IsCause call signature run proof answer → IsUnlessMemory TooLong answer
+  long_cases ProofFound long h = absurd (not_long h.input_is.bytes h.input_is.came long)
+  long_cases (Completion node kept put_off) long h = absurd (not_long h.input_is.bytes h.input_is.came long)
+  long_cases (Rounds count) long h = absurd (not_long h.input_is.bytes h.input_is.came long)
+  long_cases (Size symbols) long h = absurd (not_long h.input_is.bytes h.input_is.came long)
+  long_cases Words long h = absurd (no_words h.0)
+  long_cases (Input fault) long h = absurd (not_long h.1.bytes h.1.came long)
+  long_cases TooLong long h = inl refl
+  long_cases ReadFault long h = absurd (told.no_fault h.1)
+  long_cases Memory long h = inr refl
+
+  complete_cases : (read : Problem) (answer : Answer) → length bytes ≤ most_bytes → problem bytes ≡ Ok read → IsCause call signature run proof answer → IsOfProving answer
+  complete_cases read ProofFound small f h = tt
+  complete_cases read (Completion node kept put_off) small f h = tt
+  complete_cases read (Rounds count) small f h = tt
+  complete_cases read (Size symbols) small f h = tt
+  complete_cases read Words small f h = absurd (no_words h.0)
+  complete_cases read (Input fault) small f h = absurd (both (problem bytes) read fault f (subst (λ b. problem b ≡ Err fault) (whole h.1.bytes h.1.came) h.1.faulty))
+  complete_cases read TooLong small f h = absurd (past_told call.before call.after bytes told.told h.1 small)
+  complete_cases read ReadFault small f h = absurd (told.no_fault h.1)
+  complete_cases read Memory small f h = tt
+
+module _ (call : Call) (run : Option Run) (reported : Answer) (failed : Bool) (old new : Option (List ℕ)) (o : IsOutcome call run reported failed old new) where
+  pub input_always : (bytes : List ℕ) (fault : Fault) → IsTold call.words call.before call.faults_before call.faults_after bytes → length bytes ≤ most_bytes → problem bytes ≡ Err fault → IsUnlessMemory (Input fault) reported
+  input_always bytes fault told small f = let r = reported_cause call run reported failed old new o in input_cases call r.signature run r.proof bytes told fault reported small f r.cause
+
+  pub too_long_always : (bytes : List ℕ) → IsTold call.words call.before call.faults_before call.faults_after bytes → most_bytes < length bytes → IsUnlessMemory TooLong reported
+  too_long_always bytes told long = let r = reported_cause call run reported failed old new o in long_cases call r.signature run r.proof bytes told reported long r.cause
+
+  pub complete : (bytes : List ℕ) (read : Problem) → IsTold call.words call.before call.faults_before call.faults_after bytes → length bytes ≤ most_bytes → problem bytes ≡ Ok read → IsOfProving reported
+  complete bytes read told small f = let r = reported_cause call run reported failed old new o in complete_cases call r.signature run r.proof bytes told read reported small f r.cause

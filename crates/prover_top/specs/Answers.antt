@@ -1,5 +1,5 @@
 -- The text and the exit status of each answer.
-use Rattle.std.specs.Prelude.{ℕ, ◌+◌, Bool, if◌then◌else◌, List, ◌++◌, codes}
+use Rattle.std.specs.Prelude.{ℕ, Bool, if◌then◌else◌, List, ◌++◌, codes}
 use Rattle.std.specs.Fmt.{decimal}
 use Rattle.dfg_reader.specs.declared.fault.FaultKind.{FaultKind}
 use Rattle.dfg_reader.specs.declared.fault.FaultKind.TheVariants.{Unexpected, Undeclared, Arity, DeclaredTwice, SecondConjecture, OutsideProfile, LimitReached}

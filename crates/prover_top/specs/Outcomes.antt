@@ -1,5 +1,5 @@
 -- Why a call gives its answer.
-use Rattle.std.specs.Prelude.{◌≡◌, ◌⊎◌, ℕ, ◌<◌, ◌≤◌, List, length, Option, Some, None, Result, Ok, Err, ⊤}
+use Rattle.std.specs.Prelude.{◌≡◌, ◌⊎◌, ℕ, List, length, Option, Some, None, Ok, Err, ⊤}
 use Rattle.outside_io.specs.Outside.{Rose, CameWhole, CamePast}
 use Rattle.spl_terms.specs.declared.clause.Clause.{Clause}
 use Rattle.spl_truth.specs.Truth.{Refuted}

@@ -1,5 +1,5 @@
 -- What a report says, clause by clause.
-use Rattle.std.specs.Prelude.{◌≡◌, ◌⊎◌, ℕ, Bool, List, length, codes, Option, None, Ok, Err, ⊤}
+use Rattle.std.specs.Prelude.{◌≡◌, ◌⊎◌, ℕ, Bool, List, length, codes, Option, Some, None, Ok, Err, ⊤}
 use Rattle.spl_terms.specs.declared.clause.Clause.{Clause}
 use Rattle.spl_symbols.specs.Symbols.{Declared}
 use Rattle.proof_steps.specs.declared.step.Line.{Line}
@@ -12,6 +12,8 @@ use Rattle.dfg_reader.specs.Problems.{problem}
 use Rattle.dfg_reader.specs.GroundClauses.{clauses}
 use Rattle.prover_top.specs.declared.answers.Answer.{Answer}
 use Rattle.prover_top.specs.declared.answers.Answer.TheVariants as answers
+use Rattle.outside_io.specs.Outside.{Rose}
+use Rattle.prover_top.specs.Words.{rounds_of}
 use Rattle.prover_top.specs.Answers.{answer_text}
 use Rattle.prover_top.specs.Deliveries.{IsDelivered}
 use Rattle.prover_top.specs.Outcomes.{Call, IsInput, IsProved, IsDecided, IsCause}
@@ -86,3 +88,12 @@ IsOfProving answers.ReadFault = ⊥
 -- the answer, unless memory ran out
 abbrev pub IsUnlessMemory : Answer → Answer → Type 0
 IsUnlessMemory expected answer = (answer ≡ expected) ⊎ (answer ≡ answers.Memory)
+
+-- ---- where the source tells its bytes and no read fails
+
+-- the words fit, the source tells these bytes, and no read failed
+pub record IsTold (words : List (List ℕ)) (before : Option (List ℕ)) (faults_before faults_after : ℕ) (bytes : List ℕ) : Type 0 where
+  pub rounds : ℕ
+  pub fits : rounds_of words ≡ Some rounds
+  pub told : before ≡ Some bytes
+  pub no_fault : Rose faults_before faults_after → ⊥

@@ -4,6 +4,8 @@
 mod answers;
 mod delivering;
 mod proving;
+#[cfg(test)]
+mod tests;
 mod top;
 mod words;
 

@@ -1,4 +1,4 @@
-ghost use Rattle.std.specs.Prelude.{◌≡◌, ◌≢◌, ℕ, ◌<◌, ◌≤◌, ◌^◌, [], map, length, Some, None, IfSome, IsSomeAnd, IsTrue};
+ghost use Rattle.std.specs.Prelude.{◌≡◌, ◌≢◌, ℕ, ◌<◌, ◌≤◌, ◌^◌, [], List, map, length, Some, None, Ok, Err, IfSome, IsSomeAnd, IsTrue};
 ghost use Rattle.std.specs.String.{string_bytes};
 ghost use Rattle.outside_io.specs.Outside.{Rose, CamePast};
 ghost use Rattle.ground_loop.specs.Runs.{ArePicked};
@@ -6,9 +6,11 @@ ghost use Rattle.ground_loop.specs.Ends.{HasNoEmpty, IsSpent, IsTooLarge};
 ghost use Rattle.dfg_reader.specs.declared.fault.ReadFault.{ReadFault as Fault};
 ghost use Rattle.prover_top.specs.Words.{rounds_of};
 ghost use Rattle.prover_top.specs.Answers.{reported_status};
+ghost use Rattle.dfg_reader.specs.declared.problem.Problem.{Problem};
+ghost use Rattle.dfg_reader.specs.Problems.{problem};
 ghost use Rattle.dfg_reader.specs.GroundClauses.{clauses, HasLimits};
 ghost use Rattle.prover_top.specs.Outcomes.{IsCause, IsDecided, IsComplete, IsRefused, most_bytes};
-ghost use Rattle.prover_top.specs.Reports.{HasLines, HasProof, IsRead, IsOutcome, IsUnlessMemory};
+ghost use Rattle.prover_top.specs.Reports.{HasLines, HasProof, IsRead, IsOutcome, IsUnlessMemory, IsOfProving, IsTold};
 
 use crate::answers::Answer;
 use crate::delivering::deliver;
@@ -163,6 +165,11 @@ pub fn run_alone<S: Source, K: Sink>(
     ensures fault { result.answer ≡ Answer.ReadFault → Rose (S.faults source.old) (S.faults source.new) }
     ensures too_long { result.answer ≡ Answer.TooLong → CamePast (S.left source.old) (S.left source.new) most_bytes }
     ensures input { (fault : Fault) → result.answer ≡ Answer.Input fault → IsRefused (S.left source.old) (S.left source.new) fault }
+
+    // Where the source tells its bytes and no read fails.
+    ensures too_long_always { (bytes : List ℕ) → IsTold (map string_bytes words.now) (S.left source.old) (S.faults source.old) (S.faults source.new) bytes → most_bytes < length bytes → IsUnlessMemory Answer.TooLong result.answer }
+    ensures input_always { (bytes : List ℕ) (fault : Fault) → IsTold (map string_bytes words.now) (S.left source.old) (S.faults source.old) (S.faults source.new) bytes → length bytes ≤ most_bytes → problem bytes ≡ Err fault → IsUnlessMemory (Answer.Input fault) result.answer }
+    ensures complete { (bytes : List ℕ) (read : Problem) → IsTold (map string_bytes words.now) (S.left source.old) (S.faults source.old) (S.faults source.new) bytes → length bytes ≤ most_bytes → problem bytes ≡ Ok read → IsOfProving result.answer }
 
     // What was written, and the counts of faults.
     ensures outcome { IsOutcome (record { words = map string_bytes words.now; before = S.left source.old; after = S.left source.new; faults_before = S.faults source.old; faults_after = S.faults source.new }) result.run result.answer result.write_failed (K.written sink.old) (K.written sink.new) }

@@ -1,4 +1,4 @@
-use Rattle.prover_top.proofs.Clauses.{run_lines, run_given, proof_only, run_unproved, completion_only, rounds_only, size_only, words_only, words_always, fault_only, too_long_only, input_only}
+use Rattle.prover_top.proofs.Clauses.{run_lines, run_given, proof_only, run_unproved, completion_only, rounds_only, size_only, words_only, words_always, fault_only, too_long_only, input_only, too_long_always, input_always, complete}
 use Rattle.prover_top.proofs.top.run_alone.Goals as goal
 
 pub returns-clause-lines : goal.returns-clause-lines
@@ -36,3 +36,12 @@ returns-clause-too_long g c = too_long_only _ _ _ _ _ _ c.respond.ensures.outcom
 
 pub returns-clause-input : goal.returns-clause-input
 returns-clause-input g c = input_only _ _ _ _ _ _ c.respond.ensures.outcome
+
+pub returns-clause-too_long_always : goal.returns-clause-too_long_always
+returns-clause-too_long_always g c = too_long_always _ _ _ _ _ _ c.respond.ensures.outcome
+
+pub returns-clause-input_always : goal.returns-clause-input_always
+returns-clause-input_always g c = input_always _ _ _ _ _ _ c.respond.ensures.outcome
+
+pub returns-clause-complete : goal.returns-clause-complete
+returns-clause-complete g c = complete _ _ _ _ _ _ c.respond.ensures.outcome

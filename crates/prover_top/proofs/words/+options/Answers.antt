@@ -1,4 +1,4 @@
-use Rattle.std.proofs.Common.{◌≡◌, sym, ◌∙◌}
+use Rattle.std.proofs.Common.{sym, ◌∙◌}
 use Rattle.prover_top.proofs.WordLemmas.{options_at}
 use Rattle.prover_top.proofs.words.+options.Goals as goal
 

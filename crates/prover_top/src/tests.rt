@@ -1,0 +1,239 @@
+use crate::{Answer, run_alone};
+use dfg_reader::{FaultKind, ReadFault};
+use outside_io::{MemorySink, MemorySource, SureSink, SureSource};
+use std::alloc::Global;
+use std::test::Fail;
+
+/// A name and descriptions: 111 bytes.
+const HEAD: &str =
+    "begin_problem(p).list_of_descriptions.name({*n*}).author({*a*}).status(unknown).description({*d*}).end_of_list.";
+
+const TWO: &str = "functions[(a,0)].predicates[(P,1)].";
+
+const TWO_PROOF: &str =
+    "Proof found.\nlist_of_proof(spl).\nstep(1,cl([],[],[P(a)]),inp,[],[no:1,dep:[]]).\nstep(2,cl([],[P(a)],[]),inp,[],[no:2,dep:[]]).\nstep(3,cl([],[],[]),res,[1,2],[i:0,part:ant,j:0,s:[],t:[],dep:[]]).\nend_of_list.\n";
+
+const EMPTY_PROOF: &str =
+    "Proof found.\nlist_of_proof(spl).\nstep(1,cl([],[],[]),inp,[],[no:1,dep:[]]).\nend_of_list.\n";
+
+fn texts(alloc: Global, words: &[&str]) -> Result<Vec<String>, Fail> {
+    let mut made = Vec::with_capacity(alloc, words.len())?;
+    for word in words {
+        made.push(String::from_str(alloc, word)?)?;
+    }
+    Ok(made)
+}
+
+/// The problem of these symbols and clauses.
+fn problem(alloc: Global, symbols: &str, clauses: &[&str]) -> Result<String, Fail> {
+    let mut text = String::from_str(alloc, HEAD)?;
+    text.push_str("list_of_symbols.")?;
+    text.push_str(symbols)?;
+    text.push_str("end_of_list.list_of_clauses(axioms,cnf).")?;
+    for clause in clauses {
+        text.push_str("clause(")?;
+        text.push_str(clause)?;
+        text.push_str(").")?;
+    }
+    text.push_str("end_of_list.end_problem.")?;
+    Ok(text)
+}
+
+/// `a` in so many applications of `f`.
+fn nested(alloc: Global, times: usize) -> Result<String, Fail> {
+    let mut text = String::new(alloc);
+    for _ in 0..times {
+        text.push_str("f(")?;
+    }
+    text.push_str("a")?;
+    for _ in 0..times {
+        text.push_str(")")?;
+    }
+    Ok(text)
+}
+
+/// A clause of literals with the predicates of these numbers, at the term, between a sign and its end.
+fn clause(
+    alloc: Global,
+    negated: std::ops::Range<usize>,
+    last: &str,
+    term: &str,
+) -> Result<String, Fail> {
+    let mut text = String::from_str(alloc, "or(")?;
+    for number in negated {
+        let literal = format!(in alloc; "not(A{number}({term})),")?;
+        text.push_str(literal.as_str())?;
+    }
+    text.push_str(last)?;
+    text.push_str(")")?;
+    Ok(text)
+}
+
+/// Runs over a sure source and a sure sink, and compares the status and the whole text.
+fn answers(
+    rt: &impl std::process::Abort,
+    alloc: Global,
+    words: &[&str],
+    input: &str,
+    status: u8,
+    text: &str,
+) -> Result<Answer, Fail> {
+    let words = texts(alloc, words)?;
+    let bytes = Vec::from_slice(alloc, input.as_bytes())?;
+    let mut source = SureSource::new(alloc, bytes, 1000);
+    let mut sink = SureSink::new(alloc);
+    let report = run_alone(alloc, words.as_slice(), &mut source, &mut sink);
+    assert_eq!(rt; sink.written(), text.as_bytes());
+    assert_eq!(rt; report.status, status);
+    assert_eq!(rt; report.write_failed, false);
+    Ok(report.answer)
+}
+
+#[test]
+fn proofs_completions_and_rounds(rt: HostRuntime) -> Result<(), Fail> {
+    let alloc = rt.alloc();
+    let two = problem(alloc, TWO, &["P(a)", "not(P(a))"])?;
+    let two = two.as_str();
+    let answer = answers(&rt, alloc, &["prove"], two, 0, TWO_PROOF)?;
+    assert_eq!(rt; answer, Answer::ProofFound);
+    let words = ["prove", "--workers", "1", "--rounds", "2"];
+    answers(&rt, alloc, &words, two, 0, TWO_PROOF)?;
+    let none = ["prove", "--rounds", "0"];
+    let answer = answers(&rt, alloc, &none, two, 2, "Gave up: rounds 0.\n")?;
+    assert_eq!(rt; answer, Answer::Rounds { count: 0 });
+    let one = ["prove", "--rounds", "1"];
+    answers(&rt, alloc, &one, two, 2, "Gave up: rounds 1.\n")?;
+
+    let empty = problem(alloc, "", &["or(false)"])?;
+    answers(&rt, alloc, &["prove"], empty.as_str(), 0, EMPTY_PROOF)?;
+    answers(&rt, alloc, &none, empty.as_str(), 0, EMPTY_PROOF)?;
+
+    let mut nothing = String::from_str(alloc, HEAD)?;
+    nothing.push_str("end_problem.")?;
+    let text = "Completion found.\nCase 0: kept 0, put off 0.\n";
+    let answer = answers(&rt, alloc, &["prove"], nothing.as_str(), 1, text)?;
+    assert_eq!(rt;
+        answer,
+        Answer::Completion {
+            node: 0,
+            kept: 0,
+            put_off: 0
+        }
+    );
+    answers(&rt, alloc, &none, nothing.as_str(), 1, text)?;
+    Ok(())
+}
+
+#[test]
+fn clauses_at_the_limit_of_symbols(rt: HostRuntime) -> Result<(), Fail> {
+    let alloc = rt.alloc();
+    let symbols =
+        "functions[(a,0),(f,1)].predicates[(A1,1),(A2,1),(A3,1),(A4,1),(A5,1),(A6,1),(A7,1),(A8,1),(A9,1),(A10,1),(A11,1),(A12,1),(A13,1),(A14,1),(A15,1),(A16,1),(A17,1),(P,1)].";
+    let term = nested(alloc, 239)?;
+    let term = term.as_str();
+    let positive = format!(in alloc; "P({term})")?;
+    let negative = format!(in alloc; "not(P({term}))")?;
+    let first = clause(alloc, 1..9, positive.as_str(), term)?;
+    let second = clause(alloc, 9..18, negative.as_str(), term)?;
+    let large = problem(alloc, symbols, &[first.as_str(), second.as_str()])?;
+    let answer = answers(
+        &rt,
+        alloc,
+        &["prove"],
+        large.as_str(),
+        2,
+        "Gave up: size 4097.\n",
+    )?;
+    assert_eq!(rt; answer, Answer::Size { symbols: 4097 });
+
+    let term = nested(alloc, 254)?;
+    let term = term.as_str();
+    let positive = format!(in alloc; "P({term})")?;
+    let negative = format!(in alloc; "not(P({term}))")?;
+    let first = clause(alloc, 1..9, positive.as_str(), term)?;
+    let second = clause(alloc, 9..17, negative.as_str(), term)?;
+    let kept = problem(alloc, symbols, &[first.as_str(), second.as_str()])?;
+    answers(
+        &rt,
+        alloc,
+        &["prove"],
+        kept.as_str(),
+        1,
+        "Completion found.\nCase 0: kept 3, put off 0.\n",
+    )?;
+    Ok(())
+}
+
+#[test]
+fn refusals(rt: HostRuntime) -> Result<(), Fail> {
+    let alloc = rt.alloc();
+    let refused = "Words refused.\n";
+    answers(&rt, alloc, &[], HEAD, 3, refused)?;
+    answers(&rt, alloc, &["prove", "--rounds", "x"], HEAD, 3, refused)?;
+    answers(
+        &rt,
+        alloc,
+        &["prove", "--rounds", "1000001"],
+        HEAD,
+        3,
+        refused,
+    )?;
+    answers(&rt, alloc, &["prove", "--rounds", "+5"], HEAD, 3, refused)?;
+    answers(&rt, alloc, &["prove", "--workers", "9"], HEAD, 3, refused)?;
+    answers(&rt, alloc, &["prove", "--workers", "2"], HEAD, 3, refused)?;
+    answers(&rt, alloc, &["prove", "--round", "5"], HEAD, 3, refused)?;
+    answers(&rt, alloc, &["prove", "--rounds"], HEAD, 3, refused)?;
+    let twice = ["prove", "--rounds", "5", "--rounds", "5"];
+    answers(&rt, alloc, &twice, HEAD, 3, refused)?;
+
+    let cut = &HEAD[..110];
+    let text = "Input refused at byte 110: Unexpected.\n";
+    let answer = answers(&rt, alloc, &["prove"], cut, 4, text)?;
+    let fault = ReadFault {
+        at: 110,
+        kind: FaultKind::Unexpected,
+    };
+    assert_eq!(rt; answer, Answer::Input(fault));
+    Ok(())
+}
+
+#[test]
+fn faults_of_the_source_and_of_the_sink(rt: HostRuntime) -> Result<(), Fail> {
+    let alloc = rt.alloc();
+    let two = problem(alloc, TWO, &["P(a)", "not(P(a))"])?;
+    let words = texts(alloc, &["prove"])?;
+    let bytes = Vec::from_slice(alloc, two.as_bytes())?;
+    let mut source = MemorySource::new(alloc, bytes, 16, vec![in alloc; 2]?);
+    let mut sink = SureSink::new(alloc);
+    let report = run_alone(alloc, words.as_slice(), &mut source, &mut sink);
+    assert_eq!(rt; report.status, 6);
+    assert_eq!(rt; report.answer, Answer::ReadFault);
+    assert_eq!(rt; sink.written(), b"Read fault.\n".as_slice());
+
+    let bytes = Vec::from_slice(alloc, two.as_bytes())?;
+    let mut source = SureSource::new(alloc, bytes, 7);
+    let mut sink = MemorySink::new(alloc, 5, vec![in alloc; 2]?);
+    let report = run_alone(alloc, words.as_slice(), &mut source, &mut sink);
+    assert_eq!(rt; report.status, 7);
+    assert_eq!(rt; report.answer, Answer::ProofFound);
+    assert_eq!(rt; report.write_failed, true);
+    assert_eq!(rt; sink.written(), b"Proof".as_slice());
+    Ok(())
+}
+
+#[test]
+fn inputs_at_the_limit_of_bytes(rt: HostRuntime) -> Result<(), Fail> {
+    let alloc = rt.alloc();
+    let words = texts(alloc, &["prove"])?;
+    for (count, text) in [
+        (16_777_216, "Input refused at byte 16777216: Unexpected.\n"),
+        (16_777_217, "Input too long.\n"),
+    ] {
+        let bytes = Vec::from_elem(alloc, b' ', count)?;
+        let mut source = SureSource::new(alloc, bytes, 1_000_000);
+        let mut sink = SureSink::new(alloc);
+        run_alone(alloc, words.as_slice(), &mut source, &mut sink);
+        assert_eq!(rt; sink.written(), text.as_bytes());
+    }
+    Ok(())
+}
