@@ -300,13 +300,12 @@ fn refuses_what_does_not_fit_in_a_clause(rt: HostRuntime) -> Result<(), Fail> {
     Ok(())
 }
 
-/// So many copies of the piece.
-fn repeated(alloc: Global, piece: &[u8], count: usize) -> Result<Vec<u8>, Fail> {
-    let mut bytes = Vec::new(alloc);
+/// Adds so many copies of the piece.
+fn push_copies(bytes: &mut Vec<u8>, piece: &[u8], count: usize) -> Result<(), Fail> {
     for _ in 0..count {
         bytes.extend_from_slice(piece)?;
     }
-    Ok(bytes)
+    Ok(())
 }
 
 const ENDS: &[u8] = b"end_of_list.end_problem.";
@@ -328,20 +327,17 @@ fn terms_nest_to_a_depth_of_one_thousand(rt: HostRuntime) -> Result<(), Fail> {
     let alloc = rt.alloc();
     let deep = FaultKind::LimitReached(Limit::Depth);
     for (before, behind, depth, offset) in &TOWERS {
-        let nested = repeated(alloc, b"f(", *depth)?;
-        let closing = repeated(alloc, b")", *depth)?;
-        let start = joined(alloc, &[HEAD, TO_TOWERS, *before])?;
-        let bytes = joined(alloc, &[&start, &nested, b"a", &closing, *behind, ENDS])?;
+        let mut bytes = joined(alloc, &[HEAD, TO_TOWERS, *before])?;
+        let start = bytes.len();
+        push_copies(&mut bytes, b"f(", *depth)?;
+        bytes.push(b'a')?;
+        push_copies(&mut bytes, b")", *depth)?;
+        bytes.extend_from_slice(*behind)?;
+        bytes.extend_from_slice(ENDS)?;
         let right = if *offset == 0 {
             is_problem(&rt, alloc, &bytes)
         } else {
-            is_refused(
-                &rt,
-                alloc,
-                &bytes,
-                start.len().saturating_add(*offset),
-                deep,
-            )
+            is_refused(&rt, alloc, &bytes, start.saturating_add(*offset), deep)
         };
         assert!(rt; right, "{depth} deep");
     }
@@ -380,7 +376,7 @@ fn gives_the_clauses_in_order(rt: HostRuntime) -> Result<(), Fail> {
         problem.signature.count() == 4
             && problem.entries.len() == 4
             && problem.proofs.is_empty()
-            && problem.end_at == bytes.len() - 12
+            && problem.end_at.saturating_add(12) == bytes.len()
     );
     let mut both = atom(alloc, 3, 1)?;
     both.push_all(atom(alloc, 2, 0)?)?;
