@@ -37,24 +37,22 @@ def chain(links):
     return problem(["c"], predicates, clauses)
 
 
-def random_clauses(count, atoms, seed):
-    """So many clauses of three literals over different atoms."""
+def three_literals(count, atoms, seed, signs):
+    """So many clauses of three literals over different atoms; `signs` draws the signs of a clause."""
     source = random.Random(seed)
     predicates = [f"p{i}" for i in range(atoms)]
     clauses = []
     for _ in range(count):
         chosen = source.sample(predicates, 3)
-        clauses.append([(name, source.random() < 0.5, "c") for name in chosen])
+        clauses.append([(name, sign, "c") for name, sign in zip(chosen, signs(source))])
     return problem(["c"], predicates, clauses)
+
+
+def random_clauses(count, atoms, seed):
+    """Random clauses of three literals with any signs."""
+    return three_literals(count, atoms, seed, lambda source: [source.random() < 0.5 for _ in range(3)])
 
 
 def model_clauses(count, atoms, seed):
-    """Random clauses of three literals that the assignment of all atoms as false satisfies: each has a negative one."""
-    source = random.Random(seed)
-    predicates = [f"p{i}" for i in range(atoms)]
-    clauses = []
-    for _ in range(count):
-        chosen = source.sample(predicates, 3)
-        signs = [False] + [source.random() < 0.5 for _ in range(2)]
-        clauses.append([(name, sign, "c") for name, sign in zip(chosen, signs)])
-    return problem(["c"], predicates, clauses)
+    """Random clauses of three literals, each with a negative one: true where all atoms are false."""
+    return three_literals(count, atoms, seed, lambda source: [False] + [source.random() < 0.5 for _ in range(2)])
