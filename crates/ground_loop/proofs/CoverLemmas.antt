@@ -1,23 +1,19 @@
 -- Conclusions that stay covered while the lines grow.
-use Rattle.std.proofs.Common.{◌≡◌, ℕ, zero, suc, ◌+◌, ◌-◌, ◌<◌, ◌≤◌, inl, inr, Bool, true, false, ◌&&◌, ◌||◌, List, [], ◌∷◌, ◌++◌, length, map, take, Option, Some, None, option_map, refl, sym, ap, ◌∙◌, subst, arith, if◌then◌else◌, length-append, sum_by}
+use Rattle.std.proofs.Common.{◌≡◌, ℕ, zero, suc, ◌+◌, ◌-◌, ◌<◌, ◌≤◌, inl, inr, Bool, true, false, ◌&&◌, List, [], ◌∷◌, ◌++◌, length, map, take, Option, Some, None, option_map, refl, sym, ap, ◌∙◌, subst, arith, if◌then◌else◌, length-append, sum_by}
 use Rattle.std.specs.Prelude.{IsSomeAnd, min}
 use Rattle.std.proofs.lemmas.Bool.{cases_lt}
-use Rattle.std.specs.List.{slice_get, list_any}
+use Rattle.std.specs.List.{slice_get}
 use Rattle.std.proofs.lemmas.Option.{slice_get_within}
 use Rattle.std.proofs.lemmas.List.Sums.{sum_by-append, sum_by-cons}
-use Rattle.spl_terms.specs.declared.term.Term.{Term, Var, App}
 use Rattle.spl_terms.specs.declared.atom.Atom.{Atom}
 use Rattle.spl_terms.specs.declared.atom.Atom.TheVariants.{Holds, Equal}
 use Rattle.spl_terms.specs.declared.clause.Part.{Part}
 use Rattle.spl_terms.specs.declared.clause.Part.TheVariants.{Constraint, Antecedent, Succedent}
 use Rattle.spl_terms.specs.declared.clause.Clause.{Clause}
-use Rattle.spl_terms.specs.Terms.{replace}
-use Rattle.spl_terms.specs.Clauses.{is_same, replace_in_atom, part_of, clause_symbols, atom_symbols, clause_eq, in_order}
-use Rattle.spl_terms.proofs.TermLemmas.{Each, term_induction, symbol_eq-refl, term_eq-refl, terms_eq-refl}
-use Rattle.spl_terms.proofs.ClauseLemmas.{clause_eq-true}
+use Rattle.spl_terms.specs.Clauses.{part_of, clause_symbols, atom_symbols, in_order}
 use Rattle.spl_truth.specs.Truth.{apply}
-use Rattle.spl_truth.specs.Redundancy.{MapsInto, Subsumes}
-use Rattle.spl_truth.proofs.Replacing.{replace-Var, replace-App}
+use Rattle.spl_truth.specs.Redundancy.{Subsumes}
+use Rattle.spl_truth.proofs.Subclauses.{subsumes_itself}
 use Rattle.proof_steps.specs.declared.step.Statement.{Statement}
 use Rattle.proof_steps.specs.declared.step.Line.{Line}
 use Rattle.proof_steps.specs.Steps.{numbered, resolution, resolved, of_two, from_two, when, both_same, may_resolve, resolvent, fits}
@@ -25,8 +21,9 @@ use Rattle.proof_steps.specs.Checked.{resolution_of_lines, stated}
 use Rattle.ground_loop.specs.declared.searching.Search.{Search}
 use Rattle.ground_loop.specs.Picking.{is_in}
 use Rattle.ground_loop.specs.Covering.{IsCovered, IsNumber, IsCoveredAt, IsCoveredPair, AreCovered}
+use Rattle.ground_loop.specs.Filing.{HasFiled}
 use Rattle.ground_loop.specs.Ends.{IsLatestPair, IsTooLarge}
-use Rattle.ground_loop.specs.Searching.{is_stated, IsGoing, Grows, IsAdvance, IsLinePair, Counts}
+use Rattle.ground_loop.specs.Searching.{IsGoing, Grows, IsAdvance, IsLinePair, Counts}
 use Rattle.ground_loop.proofs.Snoc.{get_left}
 use Rattle.ground_loop.proofs.RunLemmas.{going_same}
 
@@ -39,59 +36,10 @@ get_map [] k = refl
 get_map (l ∷ ls) zero = refl
 get_map (l ∷ ls) (suc k) = get_map ls k
 
--- ---- a clause subsumes itself
-
-abbrev itself : ℕ → Term
-itself v = Var v
-
-replaced_each : (ts : List Term) → Each (λ t. replace itself t ≡ t) ts → map (replace itself) ts ≡ ts
-replaced_each [] each = refl
-replaced_each (t ∷ ts) each = let h : replace itself t ≡ t = each.0 in let k : map (replace itself) ts ≡ ts = replaced_each ts each.1 in λ i. h i ∷ k i
-
-replaced_self : (t : Term) → replace itself t ≡ t
-replaced_self = term_induction (λ t. replace itself t ≡ t) (λ v. replace-Var itself v) (λ f ts each. replace-App itself f ts ∙ ap (App f) (replaced_each ts each))
-
-terms_self : (ts : List Term) → map (replace itself) ts ≡ ts
-terms_self [] = refl
-terms_self (t ∷ ts) = let h : replace itself t ≡ t = replaced_self t in let k : map (replace itself) ts ≡ ts = terms_self ts in λ i. h i ∷ k i
-
-atom_self : (a : Atom) → replace_in_atom itself a ≡ a
-atom_self (Holds p ts) = ap (Holds p) (terms_self ts)
-atom_self (Equal s t) = let h = replaced_self s in let k = replaced_self t in λ i. Equal (h i) (k i)
-
-same_self : (a : Atom) → is_same a a ≡ true
-same_self (Holds p ts) = simp (symbol_eq-refl, terms_eq-refl)
-same_self (Equal s t) = simp term_eq-refl
-
-some_there : {A : Type 0} (P : A → Type 0) (o : Option A) (a : A) → o ≡ Some a → P a → IsSomeAnd o P
-some_there P o a e h = subst (λ o. IsSomeAnd o P) (sym e) h
-
-into_self : (as' : List Atom) → MapsInto itself as' as'
-into_self as' = record {
-  place = λ k. k;
-  same = λ k a e. some_there (λ b. is_same (replace_in_atom itself a) b ≡ true) (slice_get as' k) a e (subst (λ x. is_same x a ≡ true) (sym (atom_self a)) (same_self a));
-  apart = λ k l h i e. e;
-}
-
-subsumes_self : (c : Clause) → Subsumes c c
-subsumes_self c = record { by = itself; each = λ part. into_self (part_of c part) }
-
 -- ---- what a line states is covered
 
 stated_covered : (lines : List Line) (k : ℕ) (l : Line) (c : Clause) → slice_get lines k ≡ Some l → l.stated.clause ≡ c → IsCovered lines c
-stated_covered lines k l c e h = inr (record { at = k; line = l; found = e; subsumes = subst (Subsumes l.stated.clause) h (subsumes_self l.stated.clause) })
-
-any_place : {A : Type 0} (p : A → Bool) (xs : List A) → list_any p xs ≡ true → (k : ℕ) × (x : A) × (slice_get xs k ≡ Some x) × (p x ≡ true)
-any_place p [] e = absurd (cc)
-any_place {A} p (x ∷ xs) e = go (λ h. any_place p xs h) (p x) refl e
-  where
-    go : (list_any p xs ≡ true → (k : ℕ) × (x : A) × (slice_get xs k ≡ Some x) × (p x ≡ true)) → (b : Bool) → p x ≡ b → (b || list_any p xs) ≡ true → (k : ℕ) × (y : A) × (slice_get (x ∷ xs) k ≡ Some y) × (p y ≡ true)
-    go more true h e = (0, x, refl, h)
-    go more false h e = let r = more e in (suc r.0, r.1, r.2, r.3)
-
--- a clause that is there already is covered
-pub repeat_covered : (lines : List Line) (c : Clause) → is_stated lines c ≡ true → IsCovered lines c
-repeat_covered lines c e = let r = any_place (λ m. clause_eq m.stated.clause c) lines e in stated_covered lines r.0 r.1 c r.2 (clause_eq-true r.1.stated.clause c r.3)
+stated_covered lines k l c e h = inr (record { at = k; line = l; found = e; subsumes = subst (Subsumes l.stated.clause) h (subsumes_itself l.stated.clause) })
 
 get_last : {A : Type 0} (xs : List A) (y : A) → slice_get (xs ++ y ∷ []) (length xs) ≡ Some y
 get_last [] y = refl
@@ -115,9 +63,9 @@ grows_more a b c g h = record { longer = omega (arith, g.longer, h.longer); keep
 pub grows_one : (old new : List Line) (l : Line) → new ≡ old ++ l ∷ [] → Grows old new
 grows_one old new l e = subst (Grows old) (sym e) (record { longer = omega (arith, length-append old (l ∷ [])); keeps = λ k h. get_left old l k h })
 
-pub advance_same : (input : List Clause) (old new : Search) → IsGoing input old → new.lines ≡ old.lines → new.given ≡ old.given → new.passive.items ≡ old.passive.items → new.empty ≡ old.empty → IsAdvance input old new
-advance_same input old new g lines given items empty = record {
-  going = going_same input old new g lines given items empty;
+pub advance_same : (input : List Clause) (old new : Search) → IsGoing input old → new.lines ≡ old.lines → new.given ≡ old.given → new.passive.items ≡ old.passive.items → new.empty ≡ old.empty → HasFiled new.lines new.filing → IsAdvance input old new
+advance_same input old new g lines given items empty filed = record {
+  going = going_same input old new g lines given items empty filed;
   given = given;
   grows = subst (Grows old.lines) (sym lines) (grows_self old.lines);
 }

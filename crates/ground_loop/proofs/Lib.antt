@@ -1,5 +1,6 @@
 pub mod Snoc
 pub mod PickLemmas
+pub mod FilingLemmas
 pub mod RunLemmas
 pub mod ProofLemmas
 pub mod MarkLemmas

@@ -19,6 +19,8 @@ use Rattle.ground_loop.specs.Runs.{IsResolvent, input_step}
 use Rattle.ground_loop.specs.Covering.{IsNumber}
 use Rattle.ground_loop.specs.Ends.{HasNoEmpty, IsFirstEmpty, IsLatest}
 use Rattle.ground_loop.specs.Searching.{is_stated, IsFirst, first_of, IsRunning, IsGoing, AreInputLines, IsStarting, IsNew, IsLinePair, IsChosen}
+use Rattle.ground_loop.specs.Filing.{HasFiled, IsLinked}
+use Rattle.ground_loop.proofs.FilingLemmas.{none_filed}
 use Rattle.ground_loop.proofs.Snoc.{get_left, get_snoc, snoc_cases, any_take}
 use Rattle.ground_loop.proofs.PickLemmas.{is_in_snoc, HasGivenParents, IsPassiveNumber, passive_number, passive_removed, passive_snoc, passive_more}
 
@@ -171,8 +173,8 @@ next_not_given input lines given r = go (is_in given (1 + length lines)) refl
     go false e = refl
     go true e = absurd (omega (arith, (r.numbers (1 + length lines) e).1))
 
-pub going_more : (input : List Clause) (old new : Search) (m n : ℕ) (l : Line) → IsGoing input old → IsNew input old m n l → IsLinePair old m n → length old.lines + 1 < 2 ^ 32 → new.lines ≡ old.lines ++ l ∷ [] → new.given ≡ old.given → new.passive.items ≡ old.passive.items ++ weighed (length old.lines + 1) l ∷ [] → IsFirst new.lines new.empty → IsGoing input new
-going_more input old new m n l g r p room lines given items empty =
+pub going_more : (input : List Clause) (old new : Search) (m n : ℕ) (l : Line) → IsGoing input old → IsNew input old m n l → IsLinePair old m n → length old.lines + 1 < 2 ^ 32 → new.lines ≡ old.lines ++ l ∷ [] → new.given ≡ old.given → new.passive.items ≡ old.passive.items ++ weighed (length old.lines + 1) l ∷ [] → IsFirst new.lines new.empty → HasFiled new.lines new.filing → IsGoing input new
+going_more input old new m n l g r p room lines given items empty filed =
     let resolvent = new_resolvent input old m n l r p in
     let parent : is_in l.step.parents p.pair.latest ≡ true = subst (λ (s : Step). is_in s.parents p.pair.latest ≡ true) (sym r.step) p.pair.one in
     let run : IsRunning input (old.lines ++ l ∷ []) old.given = running_more input old.lines old.given l p.pair.latest g.run resolvent r.fresh r.conclusion p.pair.last p.once parent in
@@ -183,15 +185,17 @@ going_more input old new m n l g r p room lines given items empty =
       run = subst (λ ls. IsRunning input ls new.given) (sym lines) (subst (λ gs. IsRunning input (old.lines ++ l ∷ []) gs) (sym given) run);
       passive = items ∙ ap (λ cs. cs ++ weighed (length old.lines + 1) l ∷ []) g.passive ∙ sym passive_is ∙ ap (λ gs. passive gs (old.lines ++ l ∷ [])) (sym given) ∙ ap (passive new.given) (sym lines);
       empty = empty;
+      filed = filed;
       count = omega (arith, room, ap length lines, length-append old.lines (l ∷ []));
     }
 
 -- nothing changed that is seen
-pub going_same : (input : List Clause) (old new : Search) → IsGoing input old → new.lines ≡ old.lines → new.given ≡ old.given → new.passive.items ≡ old.passive.items → new.empty ≡ old.empty → IsGoing input new
-going_same input old new g lines given items empty = record {
+pub going_same : (input : List Clause) (old new : Search) → IsGoing input old → new.lines ≡ old.lines → new.given ≡ old.given → new.passive.items ≡ old.passive.items → new.empty ≡ old.empty → HasFiled new.lines new.filing → IsGoing input new
+going_same input old new g lines given items empty filed = record {
   run = subst (λ ls. IsRunning input ls new.given) (sym lines) (subst (λ gs. IsRunning input old.lines gs) (sym given) g.run);
   passive = items ∙ g.passive ∙ ap (λ gs. passive gs old.lines) (sym given) ∙ ap (passive new.given) (sym lines);
   empty = subst (λ ls. IsFirst ls new.empty) (sym lines) (subst (IsFirst old.lines) (sym empty) g.empty);
+  filed = filed;
   count = subst (λ ls. length ls < 2 ^ 32) (sym lines) g.count;
 }
 
@@ -225,8 +229,8 @@ running_given input lines given n r c = record {
   numbers = λ m e. elim (member_cases given n m e) [ inl h ↦ r.numbers m h | inr h ↦ subst (IsNumber lines) (sym h) c.number ];
 }
 
-pub going_given : (input : List Clause) (old new : Search) (place : ℕ) (c : Candidate) → IsGoing input old → IsChosen (length old.given) old.passive.items place → slice_get old.passive.items place ≡ Some c → new.lines ≡ old.lines → new.given ≡ old.given ++ c.number ∷ [] → new.passive.items ≡ remove old.passive.items place → new.empty ≡ old.empty → IsGoing input new
-going_given input old new place c g best e lines given items empty =
+pub going_given : (input : List Clause) (old new : Search) (place : ℕ) (c : Candidate) → IsGoing input old → IsChosen (length old.given) old.passive.items place → slice_get old.passive.items place ≡ Some c → new.lines ≡ old.lines → new.given ≡ old.given ++ c.number ∷ [] → new.passive.items ≡ remove old.passive.items place → new.empty ≡ old.empty → HasFiled new.lines new.filing → IsGoing input new
+going_given input old new place c g best e lines given items empty filed =
     let best' : IsChosen (length old.given) (passive old.given old.lines) place = subst (λ cs. IsChosen (length old.given) cs place) g.passive best in
     let at : slice_get (passive old.given old.lines) place ≡ Some c = subst (λ cs. slice_get cs place ≡ Some c) g.passive e in
     let n = chosen_number old.lines old.given place c best' at in
@@ -234,6 +238,7 @@ going_given input old new place c g best e lines given items empty =
       run = subst (λ ls. IsRunning input ls new.given) (sym lines) (subst (λ gs. IsRunning input old.lines gs) (sym given) (running_given input old.lines old.given c.number g.run n));
       passive = items ∙ ap (λ cs. remove cs place) g.passive ∙ sym (passive_removed old.lines 1 old.given place c (parents_given input old.lines old.given g.run) at) ∙ ap (λ gs. passive gs old.lines) (sym given) ∙ ap (passive new.given) (sym lines);
       empty = subst (λ ls. IsFirst ls new.empty) (sym lines) (subst (IsFirst old.lines) (sym empty) g.empty);
+      filed = filed;
       count = subst (λ ls. length ls < 2 ^ 32) (sym lines) g.count;
     }
 
@@ -250,8 +255,8 @@ input_lines_more input lines l r step is = record {
   each = snoc_cases (λ k before m. IsConclusion input (stated before) m) lines l r.each is;
 }
 
-pub starting_more : (input : List Clause) (old new : Search) (l : Line) → IsStarting input old → l.step ≡ input_step (length old.lines + 1) → IsConclusion input (stated old.lines) l → length old.lines + 1 < 2 ^ 32 → new.lines ≡ old.lines ++ l ∷ [] → new.given ≡ old.given → new.passive.items ≡ old.passive.items ++ weighed (length old.lines + 1) l ∷ [] → IsFirst new.lines new.empty → IsStarting input new
-starting_more input old new l s step is room lines given items empty =
+pub starting_more : (input : List Clause) (old new : Search) (l : Line) → IsStarting input old → l.step ≡ input_step (length old.lines + 1) → IsConclusion input (stated old.lines) l → length old.lines + 1 < 2 ^ 32 → new.lines ≡ old.lines ++ l ∷ [] → new.given ≡ old.given → new.passive.items ≡ old.passive.items ++ weighed (length old.lines + 1) l ∷ [] → IsFirst new.lines new.empty → HasFiled new.lines new.filing → IsStarting input new
+starting_more input old new l s step is room lines given items empty filed =
     let one : 1 + length old.lines ≡ length old.lines + 1 = omega arith in
     let none : list_all (λ m. is_in [] m) l.step.parents ≡ true = subst (λ (s : Step). list_all (λ m. is_in [] m) s.parents ≡ true) (sym step) refl in
     let passive_is : passive [] (old.lines ++ l ∷ []) ≡ passive [] old.lines ++ weighed (length old.lines + 1) l ∷ [] =
@@ -260,6 +265,7 @@ starting_more input old new l s step is room lines given items empty =
       lines = subst (AreInputLines input) (sym lines) (input_lines_more input old.lines l s.lines step is);
       passive = items ∙ ap (λ cs. cs ++ weighed (length old.lines + 1) l ∷ []) s.passive ∙ sym passive_is ∙ ap (passive []) (sym lines);
       empty = empty;
+      filed = filed;
       given = given ∙ s.given;
       count = omega (arith, room, ap length lines, length-append old.lines (l ∷ []));
     }
@@ -276,14 +282,16 @@ run_starts input search s size = record {
   });
   passive = s.passive ∙ ap (λ gs. passive gs search.lines) (sym s.given);
   empty = s.empty;
+  filed = s.filed;
   count = s.count;
 }
 
-pub none_starts : (input : List Clause) (search : Search) → search.lines ≡ [] → search.given ≡ [] → search.passive.items ≡ [] → search.empty ≡ None → IsStarting input search
-none_starts input search lines given items empty = record {
+pub none_starts : (input : List Clause) (search : Search) → search.lines ≡ [] → search.given ≡ [] → search.passive.items ≡ [] → search.empty ≡ None → IsLinked search.filing → IsStarting input search
+none_starts input search lines given items empty linked = record {
   lines = subst (AreInputLines input) (sym lines) (record { steps = λ k l e. absurd (cc); each = λ k l e. absurd (cc) });
   passive = items ∙ ap (passive []) (sym lines);
   empty = subst (λ ls. IsFirst ls search.empty) (sym lines) (subst (IsFirst []) (sym empty) (λ k l e. absurd (none k l e)));
+  filed = none_filed search.lines search.filing lines linked;
   given = given;
   count = subst (λ ls. length ls < 2 ^ 32) (sym lines) (omega arith);
 }

@@ -3,5 +3,6 @@ pub mod Runs
 pub mod Covering
 pub mod Ends
 pub mod Proofs
+pub mod Filing
 pub mod Searching
 pub mod Endings

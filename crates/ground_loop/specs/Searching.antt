@@ -16,6 +16,7 @@ use Rattle.ground_loop.specs.declared.searching.Stop.TheVariants.{Empty, Large, 
 use Rattle.ground_loop.specs.Picking.{is_in, passive}
 use Rattle.ground_loop.specs.Runs.{BeginsWithInput, GoesOnResolving, ArePicked, input_step}
 use Rattle.ground_loop.specs.Covering.{IsNumber}
+use Rattle.ground_loop.specs.Filing.{HasFiled}
 use Rattle.ground_loop.specs.Ends.{HasNoEmpty, IsFirstEmpty, IsLatestPair, IsTooLarge}
 
 -- no line states this very clause
@@ -49,6 +50,7 @@ pub record IsGoing (input : List Clause) (search : Search) : Type 0 where
   pub run : IsRunning input search.lines search.given
   pub passive : search.passive.items ≡ passive search.given search.lines
   pub empty : IsFirst search.lines search.empty
+  pub filed : HasFiled search.lines search.filing
   pub count : length search.lines < 2 ^ 32
 
 -- the lines of the first input clauses
@@ -61,6 +63,7 @@ pub record IsStarting (input : List Clause) (search : Search) : Type 0 where
   pub lines : AreInputLines input search.lines
   pub passive : search.passive.items ≡ passive [] search.lines
   pub empty : IsFirst search.lines search.empty
+  pub filed : HasFiled search.lines search.filing
   pub given : search.given ≡ []
   pub count : length search.lines < 2 ^ 32
 

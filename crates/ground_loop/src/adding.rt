@@ -3,15 +3,18 @@ ghost use Rattle.spl_terms.specs.Clauses.{clause_symbols};
 ghost use Rattle.proof_steps.specs.Steps.{is_resolution_rule};
 ghost use Rattle.proof_steps.specs.Checked.{IsConclusion, IsContradiction, stated};
 ghost use Rattle.ground_loop.specs.Picking.{weighed};
+ghost use Rattle.ground_loop.specs.Filing.{HasFiled};
 ghost use Rattle.ground_loop.specs.Searching.{IsStarting, IsGoing, IsFirst, first_of};
 ghost use Rattle.ground_loop.specs.Runs.{input_step};
 
+use crate::filing::{Filing, clause_key};
 use crate::searching::Search;
 use proof_steps::{Line, Rule, Statement, Step, conclude_from_lines};
 use spl_terms::{Clause, Items, symbols_of};
 use spl_truth::Candidate;
 use std::alloc::{AllocError, Global};
 
+/// Whether this is the empty clause without assumptions.
 pub fn is_contradiction(stated: &Statement) -> bool
     ensures { IsTrue result ↔ IsContradiction stated.now }
 {
@@ -32,10 +35,12 @@ fn first_of(known: Option<u32>, empty: bool, number: u32) -> Option<u32>
 pub fn push_line(search: &mut Search, line: Line) -> Result<(), AllocError>
     requires room { length search.old.lines + 1 < 2 ^ 32 }
     requires small { clause_symbols line.stated.clause ≤ 4096 }
+    requires filed { HasFiled search.old.lines search.old.filing }
     ensures lines { OnOk result (search.new.lines ≡ search.old.lines ++ line ∷ []) }
     ensures passive { OnOk result (search.new.passive.items ≡ search.old.passive.items ++ weighed (length search.old.lines + 1) line ∷ []) }
     ensures empty { OnOk result (IsFirst search.old.lines search.old.empty → IsFirst search.new.lines search.new.empty) }
     ensures same { OnErr result ((search.new.lines ≡ search.old.lines) × (search.new.passive.items ≡ search.old.passive.items) × (search.new.empty ≡ search.old.empty)) }
+    ensures filed { HasFiled search.new.lines search.new.filing }
     ensures given { search.new.given ≡ search.old.given }
 {
     let empty = is_contradiction(&line.stated);
@@ -44,6 +49,9 @@ pub fn push_line(search: &mut Search, line: Line) -> Result<(), AllocError>
         symbols: symbols_of(&line.stated.clause),
     };
     search.passive.reserve(1)?;
+    search
+        .filing
+        .file(clause_key(&line.stated.clause), candidate.number)?;
     search.lines.push(line)?;
     search.passive.push_reserved(candidate);
     search.empty = first_of(search.empty, empty, candidate.number);
@@ -102,6 +110,7 @@ pub fn start(alloc: Global, input: &[Clause]) -> Result<Search, AllocError>
         lines: Items::with_room(alloc, input.len())?,
         given: Items::new(alloc),
         passive: Vec::with_capacity(alloc, input.len())?,
+        filing: Filing::new(alloc),
         empty: None,
     };
     for k in 0..input.len() {

@@ -7,8 +7,8 @@
 #![tactic(auto)]
 
 mod adding;
-mod covering;
 mod extracting;
+mod filing;
 mod giving;
 mod picking;
 mod resolving;

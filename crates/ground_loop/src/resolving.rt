@@ -9,11 +9,11 @@ ghost use Rattle.ground_loop.specs.Covering.{IsCovered, IsCoveredAt, IsCoveredPa
 ghost use Rattle.ground_loop.specs.Searching.{IsGoing, IsNew, IsAdvance, IsLinePair, IsStop, Counts};
 
 use crate::adding::{is_contradiction, push_line};
-use crate::covering::{is_stated, is_tautology};
+use crate::filing::is_subsumed;
 use crate::searching::{Search, Stop};
 use proof_steps::{Line, Rule, Statement, Step, numbered_line, resolve_lines};
 use spl_terms::{Clause, Items, Part, PushError};
-use spl_truth::Subst;
+use spl_truth::{Subst, is_tautology};
 use std::alloc::{AllocError, Global};
 
 /// The step that resolves two lines without variables.
@@ -61,7 +61,7 @@ fn add_line(input: &[Clause], search: &mut Search, line: Line, m: u32, n: u32) -
     Ok(())
 }
 
-/// Adds a line that states this conclusion, unless it is a tautology or a line states it.
+/// Adds a line that states this conclusion, unless it is a tautology or a line subsumes it as it stands.
 fn add_conclusion(
     alloc: Global,
     input: &[Clause],
@@ -84,7 +84,7 @@ fn add_conclusion(
     if is_tautology(&conclusion.clause) {
         return Ok(());
     }
-    if is_stated(search.lines.as_slice(), &conclusion.clause) {
+    if is_subsumed(search.lines.as_slice(), &search.filing, &conclusion.clause) {
         return Ok(());
     }
     if search.lines.len() >= 4_294_967_295 {

@@ -1,6 +1,7 @@
 ghost use Rattle.std.specs.Prelude.{◌≡◌};
 ghost use Rattle.ground_loop.specs.declared.searching.Stop.TheVariants as stop;
 
+use crate::filing::Filing;
 use proof_steps::Line;
 use spl_terms::Items;
 use spl_truth::Candidate;
@@ -15,6 +16,8 @@ pub struct Search {
     pub given: Items<u32>,
     /// The lines that may be given next, in order.
     pub passive: Vec<Candidate>,
+    /// The lines, each filed under the key of its clause.
+    pub filing: Filing,
     /// The number of the first line that states the empty clause.
     pub empty: Option<u32>,
 }

@@ -15,6 +15,6 @@ mod tests;
 
 pub use checking::{check, follow, refutes};
 pub use concluding::{conclude, conclude_from_lines};
-pub use lookup::numbered_line;
+pub use lookup::{numbered, numbered_line};
 pub use resolving::{may_resolve, may_resolve_lines, resolve_lines};
 pub use step::{Line, Rule, Statement, Step};

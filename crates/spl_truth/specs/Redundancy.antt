@@ -1,7 +1,7 @@
 -- Clauses that need not be kept: tautologies, and clauses that another one subsumes (Weidenbach 2001, section on
 -- reductions).
-use Rattle.std.specs.Prelude.{◌≡◌, ℕ, ◌<◌, Bool, true, false, ◌||◌, List, length, Some, IsSomeAnd, slice_get}
-use Rattle.std.specs.List.{list_any}
+use Rattle.std.specs.Prelude.{◌≡◌, ℕ, ◌<◌, nat_le, Bool, true, false, ◌||◌, ◌&&◌, List, length, count_by, Some, IsSomeAnd, slice_get}
+use Rattle.std.specs.List.{list_any, list_all}
 use Rattle.spl_terms.specs.declared.term.Term.{Term}
 use Rattle.spl_terms.specs.declared.atom.Atom.{Atom}
 use Rattle.spl_terms.specs.declared.atom.Atom.TheVariants.{Holds, Equal}
@@ -29,3 +29,11 @@ pub record MapsInto (by : ℕ → Term) (atoms into : List Atom) : Type 0 where
 pub record Subsumes (c d : Clause) : Type 0 where
   pub by : ℕ → Term
   pub each : (part : Part) → MapsInto by (part_of c part) (part_of d part)
+
+-- each atom is there as often as here, or more often, up to exchanged sides
+abbrev pub is_contained : List Atom → List Atom → Bool
+is_contained atoms into = list_all (λ a. nat_le (count_by (is_same a) atoms) (count_by (is_same a) into)) atoms
+
+-- each part of c is contained, as a multiset, in that part of d
+abbrev pub is_subclause : Clause → Clause → Bool
+is_subclause c d = is_contained c.constraint d.constraint && is_contained c.antecedent d.antecedent && is_contained c.succedent d.succedent

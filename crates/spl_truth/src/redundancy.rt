@@ -1,7 +1,7 @@
-ghost use Rattle.std.specs.Prelude.{◌≡◌};
+ghost use Rattle.std.specs.Prelude.{◌≡◌, count_by, true};
 ghost use Rattle.std.specs.List.{list_any};
 ghost use Rattle.spl_terms.specs.Clauses.{is_same};
-ghost use Rattle.spl_truth.specs.Redundancy.{has_equal_sides, is_tautology};
+ghost use Rattle.spl_truth.specs.Redundancy.{has_equal_sides, is_tautology, is_contained, is_subclause, Subsumes};
 
 use spl_terms::{Atom, Clause, same_atom};
 
@@ -31,4 +31,38 @@ pub fn is_tautology(clause: &Clause) -> bool
     clause.succedent.as_slice().iter().any(|atom| {
         contains_same(antecedent, atom) || contains_same(constraint, atom) || has_equal_sides(atom)
     })
+}
+
+fn count_same(atoms: &[Atom], atom: &Atom) -> usize
+    ensures { result ≡ count_by (is_same atom.now) atoms.now }
+{
+    atoms.iter().filter(|other| same_atom(atom, other)).count()
+}
+
+fn is_contained(atoms: &[Atom], into: &[Atom]) -> bool
+    ensures { result ≡ is_contained atoms.now into.now }
+{
+    atoms
+        .iter()
+        .all(|atom| count_same(atoms, atom) <= count_same(into, atom))
+}
+
+fn contains_parts(clause: &Clause, other: &Clause) -> bool
+    ensures { result ≡ is_subclause clause.now other.now }
+{
+    is_contained(clause.constraint.as_slice(), other.constraint.as_slice())
+        && is_contained(clause.antecedent.as_slice(), other.antecedent.as_slice())
+        && is_contained(clause.succedent.as_slice(), other.succedent.as_slice())
+}
+
+/// Whether each part of the clause is contained in that part of the other one: each atom is there as often or more
+/// often, up to exchanged sides. Then the clause subsumes the other one as it stands (Weidenbach 2001, the section on
+/// reductions). It takes no memory.
+#[tactic(auto, using(crate::proofs::Subclauses::subclause_subsumes, crate::proofs::Subclauses::equal_subclause))]
+pub fn is_subclause(clause: &Clause, other: &Clause) -> bool
+    ensures exact { result ≡ is_subclause clause.now other.now }
+    ensures subsumes { result ≡ true → Subsumes clause.now other.now }
+    ensures itself { clause.now ≡ other.now → result ≡ true }
+{
+    contains_parts(clause, other)
 }

@@ -15,4 +15,4 @@ returns-in_ok-push_line-in-Some-clause-starting c =
     let step : line.step ≡ input_step (length old.lines + 1) = (rw c.in-Some.is at c.in_ok-line.ensures.step) ∙ ap make c.new.ensures ∙ ap input_step c.requires.number in
     let is : IsConclusion input (stated old.lines) line = subst (λ t. IsConclusion input (stated t) line) c.as_slice.ensures (rw c.in-Some.is at c.in_ok-line.ensures.conclusion) in
     let p = c.in_ok-push_line-in-Some.ensures in
-    starting_more input old c.push_line.new.search line c.requires.starting step is (omega (arith, c.requires.number, c.ranges.no.fits)) p.lines p.given p.passive (p.empty c.requires.starting.empty)
+    starting_more input old c.push_line.new.search line c.requires.starting step is (omega (arith, c.requires.number, c.ranges.no.fits)) p.lines p.given p.passive (p.empty c.requires.starting.empty) p.filed

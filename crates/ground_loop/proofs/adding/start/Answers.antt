@@ -4,7 +4,7 @@ use Rattle.ground_loop.proofs.adding.start.Goals as goal
 
 pub loop-k-init : goal.loop-k-init
 loop-k-init c = record {
-  starting = none_starts c.args.input.now _ c.in_ok-with_room.ensures c.new.ensures c.in_ok-with_capacity.ensures.items refl;
+  starting = none_starts c.args.input.now _ c.in_ok-with_room.ensures c.new.ensures c.in_ok-with_capacity.ensures.items refl c.new-2.ensures.linked;
   size = ap length c.in_ok-with_room.ensures;
 }
 

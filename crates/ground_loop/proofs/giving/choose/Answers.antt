@@ -9,7 +9,7 @@ use Rattle.ground_loop.proofs.giving.choose.Goals as goal
 pub returns-clause-going : goal.returns-clause-going
 returns-clause-going c =
     going_given c.args.input.now c.args.search.now _ c.args.place c.index.result.now c.requires.going c.requires.best
-    (index_is c.args.search.now.passive.items c.args.place c.index.result.now c.requires.within c.index.ensures) refl c.in_ok-push.ensures.ok c.remove.ensures.items refl
+    (index_is c.args.search.now.passive.items c.args.place c.index.result.now c.requires.within c.index.ensures) refl c.in_ok-push.ensures.ok c.remove.ensures.items refl c.requires.going.filed
 
 pub returns-clause-number : goal.returns-clause-number
 returns-clause-number c =

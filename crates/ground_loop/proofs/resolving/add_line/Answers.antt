@@ -6,14 +6,14 @@ use Rattle.ground_loop.proofs.resolving.add_line.Goals as goal
 pub returns-in_err-push_line-clause-advance : goal.returns-in_err-push_line-clause-advance
 returns-in_err-push_line-clause-advance c =
     let same = c.in_err-push_line.ensures.same in
-    advance_same c.args.input.now c.args.search.now c.push_line.new.search c.requires.going same.0 c.in_err-push_line.ensures.given same.1 same.2
+    advance_same c.args.input.now c.args.search.now c.push_line.new.search c.requires.going same.0 c.in_err-push_line.ensures.given same.1 same.2 c.in_err-push_line.ensures.filed
 
 pub returns-then-empty-clause-advance : goal.returns-then-empty-clause-advance
 returns-then-empty-clause-advance c =
     let r = c.requires in
     let p = c.in_ok-push_line.ensures in
     record {
-      going = going_more c.args.input.now c.args.search.now c.push_line.new.search c.args.m c.args.n c.args.line r.going r.new r.pair r.room p.lines p.given p.passive (p.empty r.going.empty);
+      going = going_more c.args.input.now c.args.search.now c.push_line.new.search c.args.m c.args.n c.args.line r.going r.new r.pair r.room p.lines p.given p.passive (p.empty r.going.empty) p.filed;
       given = p.given;
       grows = grows_one c.args.search.now.lines c.push_line.new.search.lines c.args.line p.lines;
     }
@@ -28,7 +28,7 @@ returns-clause-advance c =
     let r = c.requires in
     let p = c.in_ok-push_line.ensures in
     record {
-      going = going_more c.args.input.now c.args.search.now c.push_line.new.search c.args.m c.args.n c.args.line r.going r.new r.pair r.room p.lines p.given p.passive (p.empty r.going.empty);
+      going = going_more c.args.input.now c.args.search.now c.push_line.new.search c.args.m c.args.n c.args.line r.going r.new r.pair r.room p.lines p.given p.passive (p.empty r.going.empty) p.filed;
       given = p.given;
       grows = grows_one c.args.search.now.lines c.push_line.new.search.lines c.args.line p.lines;
     }
