@@ -31,7 +31,7 @@ length_map : {A B : Type 0} (f : A → B) (xs : List A) → length (map f xs) �
 length_map f [] = refl
 length_map f (x ∷ xs) = omega (arith, length_map f xs)
 
-get_map : (lines : List Line) (k : ℕ) → slice_get (stated lines) k ≡ option_map (λ l. l.stated) (slice_get lines k)
+pub get_map : (lines : List Line) (k : ℕ) → slice_get (stated lines) k ≡ option_map (λ l. l.stated) (slice_get lines k)
 get_map [] k = refl
 get_map (l ∷ ls) zero = refl
 get_map (l ∷ ls) (suc k) = get_map ls k

@@ -21,28 +21,28 @@ use Rattle.ground_loop.proofs.Snoc.{get_left, get_snoc}
 
 -- ---- entries by number
 
-numbered_left : {A : Type 0} (xs : List A) (y : A) (n : ℕ) → n ≤ length xs → numbered (xs ++ y ∷ []) n ≡ numbered xs n
+pub numbered_left : {A : Type 0} (xs : List A) (y : A) (n : ℕ) → n ≤ length xs → numbered (xs ++ y ∷ []) n ≡ numbered xs n
 numbered_left xs y zero h = refl
 numbered_left xs y (suc k) h = get_left xs y k (omega (arith, h))
 
-numbered_within : {A : Type 0} (xs : List A) (n : ℕ) (x : A) → numbered xs n ≡ Some x → (0 < n) × (n ≤ length xs)
+pub numbered_within : {A : Type 0} (xs : List A) (n : ℕ) (x : A) → numbered xs n ≡ Some x → (0 < n) × (n ≤ length xs)
 numbered_within xs zero x e = absurd (cc)
 numbered_within xs (suc k) x e = (omega arith, omega (arith, slice_get_within xs k x e))
 
-numbered_there : {A : Type 0} (xs : List A) (n : ℕ) → 0 < n → n ≤ length xs → (x : A) × (numbered xs n ≡ Some x)
+pub numbered_there : {A : Type 0} (xs : List A) (n : ℕ) → 0 < n → n ≤ length xs → (x : A) × (numbered xs n ≡ Some x)
 numbered_there xs zero p h = absurd (omega (arith, p))
 numbered_there [] (suc k) p h = absurd (omega (arith, h))
 numbered_there (x ∷ xs) (suc zero) p h = (x, refl)
 numbered_there (x ∷ xs) (suc (suc k)) p h = numbered_there xs (suc k) (omega arith) (omega (arith, h))
 
-numbered_snoc : {A : Type 0} (xs : List A) (y : A) (n : ℕ) (z : A) → numbered (xs ++ y ∷ []) n ≡ Some z → ((n ≤ length xs) × (numbered xs n ≡ Some z)) ⊎ ((n ≡ length xs + 1) × (y ≡ z))
+pub numbered_snoc : {A : Type 0} (xs : List A) (y : A) (n : ℕ) (z : A) → numbered (xs ++ y ∷ []) n ≡ Some z → ((n ≤ length xs) × (numbered xs n ≡ Some z)) ⊎ ((n ≡ length xs + 1) × (y ≡ z))
 numbered_snoc xs y zero z e = absurd (cc)
 numbered_snoc xs y (suc k) z e = elim (get_snoc xs y k z e) [
   | inl h ↦ inl (omega (arith, h.0), h.1)
   | inr h ↦ inr (omega (arith, h.0), h.1)
 ]
 
-numbered_last : {A : Type 0} (xs : List A) (y : A) → numbered (xs ++ y ∷ []) (length xs + 1) ≡ Some y
+pub numbered_last : {A : Type 0} (xs : List A) (y : A) → numbered (xs ++ y ∷ []) (length xs + 1) ≡ Some y
 numbered_last {A} xs y = let one : suc (length xs) ≡ length xs + 1 = omega arith in subst (λ n. numbered (xs ++ y ∷ []) n ≡ Some y) one (last xs)
   where
     last : (xs : List A) → numbered (xs ++ y ∷ []) (suc (length xs)) ≡ Some y
@@ -122,7 +122,7 @@ none_linked filing rule items = record {
 
 -- ---- the lines stay filed
 
-filed_left : (es : List Entry) (e : Entry) (key value : ℕ) → IsFiled es key value → IsFiled (es ++ e ∷ []) key value
+pub filed_left : (es : List Entry) (e : Entry) (key value : ℕ) → IsFiled es key value → IsFiled (es ++ e ∷ []) key value
 filed_left es e key value h = (h.0, h.1, numbered_left es e h.0 (numbered_within es h.0 h.1 h.2).1 ∙ h.2, h.3, h.4)
 
 are_filed_left : (es : List Entry) (e : Entry) (lines : List Line) → AreFiled es lines → AreFiled (es ++ e ∷ []) lines

@@ -5,14 +5,19 @@ use Rattle.std.specs.List.{slice_get}
 use Rattle.std.proofs.lemmas.Option.{slice_get_within}
 use Rattle.spl_terms.specs.declared.clause.Clause.{Clause}
 use Rattle.proof_steps.specs.declared.step.Line.{Line}
+use Rattle.proof_steps.specs.Steps.{numbered}
+use Rattle.ground_loop.specs.declared.filing.Filing.{Filing}
+use Rattle.ground_loop.specs.Filing.{IsLinked}
+use Rattle.ground_loop.specs.Partners.{HasClause, FilesOnly, HasLiterals, HasPartners, AreFiledValues}
 use Rattle.ground_loop.specs.declared.searching.Search.{Search}
 use Rattle.ground_loop.specs.Picking.{is_in, passive}
 use Rattle.ground_loop.specs.Covering.{IsNumber, IsCoveredPair, AreCovered}
 use Rattle.ground_loop.specs.Ends.{HasNoEmpty, AreAllGiven, IsSpent}
 use Rattle.ground_loop.specs.Searching.{IsFirst, IsGoing, Grows, IsAdvance, IsLinePair, IsEnded}
 use Rattle.ground_loop.proofs.PickLemmas.{none_passive, pick_some}
-use Rattle.ground_loop.proofs.RunLemmas.{member_last, member_cases, at_member, parents_given}
+use Rattle.ground_loop.proofs.RunLemmas.{member_last, member_cases, parents_given}
 use Rattle.ground_loop.proofs.CoverLemmas.{pair_grows, all_grows}
+use Rattle.ground_loop.proofs.VainLemmas.{vain_pairs, literals_grow, literals_more, line_keeps}
 
 -- where a member of a list stands
 member_place : (xs : List ℕ) (x : ℕ) → is_in xs x ≡ true → (k : ℕ) × (slice_get xs k ≡ Some x)
@@ -23,13 +28,12 @@ member_place (y ∷ xs) x e = go (λ h. member_place xs x h) (nat_eq x y) refl e
     go more true h e = let same : x ≡ y = search rules in (0, ap Some (sym same))
     go more false h e = let r = more e in (suc r.0, r.1)
 
--- the pairs of the line given last with the lines given before the place k
+-- the pairs of the line given last with the first partners
 abbrev pub IsCoveredUpTo : List Line → List ℕ → ℕ → ℕ → Type 0
-IsCoveredUpTo lines given number k = (j x : ℕ) → j < k → slice_get given j ≡ Some x → IsCoveredPair lines x number × IsCoveredPair lines number x
+IsCoveredUpTo lines partners number k = (j x : ℕ) → j < k → slice_get partners j ≡ Some x → IsCoveredPair lines x number × IsCoveredPair lines number x
 
-pub given_covered : (lines : List Line) (before given : List ℕ) (number : ℕ) → given ≡ before ++ number ∷ [] → AreCovered lines before → IsCoveredUpTo lines given number (length given) → AreCovered lines given
-given_covered lines before given number is old new m n hm hn =
-    let at : (x : ℕ) → is_in given x ≡ true → IsCoveredPair lines x number × IsCoveredPair lines number x = (λ x h. let r = member_place given x h in new r.0 x (slice_get_within given r.0 x r.1) r.1) in
+pub given_covered : (lines : List Line) (before given : List ℕ) (number : ℕ) → given ≡ before ++ number ∷ [] → AreCovered lines before → ((x : ℕ) → is_in given x ≡ true → IsCoveredPair lines x number × IsCoveredPair lines number x) → AreCovered lines given
+given_covered lines before given number is old at m n hm hn =
     elim (member_cases before number m (subst (λ g. is_in g m ≡ true) is hm)) [
       | inr e ↦ subst (λ z. IsCoveredPair lines z n) (sym e) (at n hn).1
       | inl h ↦ elim (member_cases before number n (subst (λ g. is_in g n ≡ true) is hn)) [
@@ -50,13 +54,12 @@ first_of_two : (n x : ℕ) → is_in (n ∷ x ∷ []) n ≡ true
 first_of_two n x = let same : nat_eq n n ≡ true = search rules in rw same refl
 
 -- the line given last and any given line
-pub line_pairs : (input : List Clause) (search : Search) (before : List ℕ) (number k x : ℕ) → IsGoing input search → is_in before number ≡ false → search.given ≡ before ++ number ∷ [] → slice_get search.given k ≡ Some x → IsLinePair search x number × IsLinePair search number x
-line_pairs input search before number k x g new is at =
+pub line_pairs : (input : List Clause) (search : Search) (before : List ℕ) (number x : ℕ) → IsGoing input search → is_in before number ≡ false → search.given ≡ before ++ number ∷ [] → is_in search.given x ≡ true → IsLinePair search x number × IsLinePair search number x
+line_pairs input search before number x g new is other =
     let size : length search.given - 1 ≡ length before = omega (arith, ap length is, length-append before (number ∷ [])) in
     let last : slice_get search.given (length search.given - 1) ≡ Some number = ap (slice_get search.given) size ∙ ap (λ gs. slice_get gs (length before)) is ∙ last_at before number in
     let once : is_in (take (length search.given - 1) search.given) number ≡ false = ap (λ n. is_in (take n search.given) number) size ∙ ap (λ gs. is_in (take (length before) gs) number) is ∙ ap (λ gs. is_in gs number) (taken_before before number) ∙ new in
     let here : is_in search.given number ≡ true = ap (λ gs. is_in gs number) is ∙ member_last before number in
-    let other : is_in search.given x ≡ true = at_member search.given k x at in
     let here_line : IsNumber search.lines number = g.run.numbers number here in
     let other_line : IsNumber search.lines x = g.run.numbers x other in (
       record { pair = record { latest = number; last = last; left = other; right = here; one = member_last (x ∷ []) number }; once = once; left = other_line; right = here_line },
@@ -72,34 +75,56 @@ up_to_more lines given number k x before at here = λ j y h e. elim (cases_lt j 
 up_to_grows : (old new : List Line) (given : List ℕ) (number k : ℕ) → Grows old new → IsCoveredUpTo old given number k → IsCoveredUpTo new given number k
 up_to_grows old new given number k g before = λ j x h e. let r = before j x h e in (pair_grows old new x number g r.0, pair_grows old new number x g r.1)
 
--- the line with this number was given after those before, and its pairs up to the place k are covered
-pub record IsGiving (input : List Clause) (search : Search) (before : List ℕ) (number k : ℕ) : Type 0 where
+-- the line with this number was given after those before, and its pairs with the first partners are covered
+pub record IsGiving (input : List Clause) (search : Search) (literals : Filing) (before : List ℕ) (number : ℕ) (partners : List ℕ) (k : ℕ) : Type 0 where
   pub going : IsGoing input search
   pub given : search.given ≡ before ++ number ∷ []
   pub new : is_in before number ≡ false
   pub old : AreCovered search.lines before
-  pub up_to : IsCoveredUpTo search.lines search.given number k
+  pub filed : HasLiterals search.lines search.given literals
+  pub has : (l : Line) → numbered search.lines number ≡ Some l → HasPartners literals.entries.items l.stated.clause partners
+  pub all_given : (v : ℕ) → is_in partners v ≡ true → is_in search.given v ≡ true
+  pub up_to : IsCoveredUpTo search.lines partners number k
 
-pub giving_starts : (input : List Clause) (search : Search) (lines : List Line) (before : List ℕ) (number : ℕ) → IsGoing input search → search.lines ≡ lines → search.given ≡ before ++ number ∷ [] → is_in before number ≡ false → AreCovered lines before → IsGiving input search before number 0
-giving_starts input search lines before number g same given new old = record {
-  going = g;
-  given = given;
-  new = new;
-  old = subst (λ ls. AreCovered ls before) (sym same) old;
-  up_to = λ j x h e. absurd (omega (arith, h));
-}
+pub giving_starts : (input : List Clause) (search : Search) (lines : List Line) (before : List ℕ) (number : ℕ) (old new : Filing) (partners : List ℕ) → IsGoing input search → search.lines ≡ lines → search.given ≡ before ++ number ∷ [] → is_in before number ≡ false → AreCovered lines before → HasLiterals lines before old → IsLinked new → FilesOnly old.entries.items new.entries.items number
+    → ((l : Line) → numbered search.lines number ≡ Some l → HasClause new.entries.items l.stated.clause number) → AreFiledValues new.entries.items partners → ((l : Line) → numbered search.lines number ≡ Some l → HasPartners new.entries.items l.stated.clause partners) → IsGiving input search new before number partners 0
+giving_starts input search lines before number old new partners g same given fresh covered literals linked files clause filed all =
+    let has : HasLiterals search.lines search.given new = subst (λ gs. HasLiterals search.lines gs new) (sym given) (literals_more search.lines before number old new (subst (λ ls. HasLiterals ls before old) (sym same) literals) linked files clause) in
+    record {
+      going = g;
+      given = given;
+      new = fresh;
+      old = subst (λ ls. AreCovered ls before) (sym same) covered;
+      filed = has;
+      has = all;
+      all_given = λ v e. let f = filed v e in has.only f.0 v f.1;
+      up_to = λ j x h e. absurd (omega (arith, h));
+    }
 
-pub giving_more : (input : List Clause) (a b : Search) (before : List ℕ) (number k x : ℕ) → IsGiving input a before number k → IsAdvance input a b → slice_get a.given k ≡ Some x → IsCoveredPair b.lines x number × IsCoveredPair b.lines number x → IsGiving input b before number (k + 1)
-giving_more input a b before number k x g adv at here = record {
-  going = adv.going;
-  given = adv.given ∙ g.given;
-  new = g.new;
-  old = all_grows a.lines b.lines before adv.grows g.old;
-  up_to = subst (λ gs. IsCoveredUpTo b.lines gs number (k + 1)) (sym adv.given) (up_to_more b.lines a.given number k x (up_to_grows a.lines b.lines a.given number k adv.grows g.up_to) at here);
-}
+pub giving_more : (input : List Clause) (a b : Search) (literals : Filing) (before : List ℕ) (number : ℕ) (partners : List ℕ) (k x : ℕ) → IsGiving input a literals before number partners k → IsAdvance input a b → slice_get partners k ≡ Some x → IsCoveredPair b.lines x number × IsCoveredPair b.lines number x → IsGiving input b literals before number partners (k + 1)
+giving_more input a b literals before number partners k x g adv at here =
+    let here_given : is_in a.given number ≡ true = ap (λ gs. is_in gs number) g.given ∙ member_last before number in
+    record {
+      going = adv.going;
+      given = adv.given ∙ g.given;
+      new = g.new;
+      old = all_grows a.lines b.lines before adv.grows g.old;
+      filed = subst (λ gs. HasLiterals b.lines gs literals) (sym adv.given) (literals_grow a.lines b.lines a.given literals adv.grows g.going.run.numbers g.filed);
+      has = λ l e. g.has l (sym (line_keeps a.lines b.lines number adv.grows (g.going.run.numbers number here_given)) ∙ e);
+      all_given = λ v e. subst (λ gs. is_in gs v ≡ true) (sym adv.given) (g.all_given v e);
+      up_to = up_to_more b.lines partners number k x (up_to_grows a.lines b.lines partners number k adv.grows g.up_to) at here;
+    }
 
-pub giving_ends : (input : List Clause) (search : Search) (before : List ℕ) (number k : ℕ) → IsGiving input search before number k → length search.given ≤ k → AreCovered search.lines search.given
-giving_ends input search before number k g h = given_covered search.lines before search.given number g.given g.old (λ j x below e. g.up_to j x (omega (arith, h, below)) e)
+pub giving_ends : (input : List Clause) (search : Search) (literals : Filing) (before : List ℕ) (number : ℕ) (partners : List ℕ) (k : ℕ) → IsGiving input search literals before number partners k → length partners ≤ k → AreCovered search.lines search.given
+giving_ends input search literals before number partners k g h = given_covered search.lines before search.given number g.given g.old each
+  where
+    here : is_in search.given number ≡ true
+    here = ap (λ gs. is_in gs number) g.given ∙ member_last before number
+    go : (x : ℕ) → is_in search.given x ≡ true → (b : Bool) → is_in partners x ≡ b → IsCoveredPair search.lines x number × IsCoveredPair search.lines number x
+    go x e true f = let r = member_place partners x f in g.up_to r.0 x (omega (arith, h, slice_get_within partners r.0 x r.1)) r.1
+    go x e false f = vain_pairs search.lines search.given literals number partners g.filed g.has x e f (g.going.run.numbers x e) (g.going.run.numbers number here)
+    each : (x : ℕ) → is_in search.given x ≡ true → IsCoveredPair search.lines x number × IsCoveredPair search.lines number x
+    each x e = go x e (is_in partners x) refl
 
 -- ---- why a run ends
 

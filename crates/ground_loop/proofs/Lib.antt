@@ -2,9 +2,11 @@ pub mod Snoc
 pub mod PickLemmas
 pub mod FilingLemmas
 pub mod RunLemmas
+pub mod PartnerLemmas
 pub mod ProofLemmas
 pub mod MarkLemmas
 pub mod CoverLemmas
+pub mod VainLemmas
 pub mod GiveLemmas
 pub mod InputLemmas
 pub mod ExtractLemmas

@@ -4,5 +4,6 @@ pub mod Covering
 pub mod Ends
 pub mod Proofs
 pub mod Filing
+pub mod Partners
 pub mod Searching
 pub mod Endings

@@ -16,10 +16,10 @@ use std::alloc::{AllocError, Global};
 // ---- keys of atoms
 
 /// The side of atoms of the constraint and the antecedent.
-const BEFORE_ARROW: u64 = 3;
+pub const BEFORE_ARROW: u64 = 3;
 
 /// The side of atoms of the succedent.
-const AFTER_ARROW: u64 = 4;
+pub const AFTER_ARROW: u64 = 4;
 
 /// The hash with another word added, by the multiplication of Fowler, Noll and Vo.
 fn mixed(hash: u64, word: u64) -> u64
@@ -51,7 +51,7 @@ fn with_terms(hash: u64, terms: &[Term]) -> u64
 }
 
 /// The key of an atom of this side; equal atoms have one key.
-fn key(side: u64, atom: &Atom) -> u64
+pub fn key(side: u64, atom: &Atom) -> u64
     ensures { result ≡ key side atom.now }
 {
     match atom {
@@ -111,7 +111,7 @@ impl Filing {
     }
 
     /// The number of the last entry of the key, from 1; 0 where there is none.
-    fn newest(&self, key: u64) -> u32
+    pub fn newest(&self, key: u64) -> u32
         ensures { result ≡ unwrap_or (get nat_eq self.now.newest key) 0 }
     {
         self.newest.get(&key).copied().unwrap_or(0)

@@ -10,6 +10,7 @@ mod adding;
 mod extracting;
 mod filing;
 mod giving;
+mod partners;
 mod picking;
 mod resolving;
 mod saturating;

@@ -13,6 +13,7 @@ use Rattle.spl_terms.specs.declared.clause.Clause.{Clause}
 use Rattle.spl_terms.specs.Terms.{replace}
 use Rattle.spl_terms.specs.Clauses.{is_same, replace_in_atom, part_of}
 use Rattle.spl_terms.proofs.TermLemmas.{Each, term_induction, symbol_eq-refl, term_eq-refl, terms_eq-refl}
+use Rattle.spl_truth.specs.Truth.{apply}
 use Rattle.spl_truth.specs.Redundancy.{MapsInto, Subsumes, is_contained, is_subclause}
 use Rattle.spl_truth.proofs.Replacing.{replace-Var, replace-App, and_parts}
 use Rattle.spl_truth.proofs.Same.{flipped, same_cases}
@@ -36,6 +37,17 @@ terms_self (t ∷ ts) = let h : replace itself t ≡ t = replaced_self t in let 
 atom_self : (a : Atom) → replace_in_atom itself a ≡ a
 atom_self (Holds p ts) = ap (Holds p) (terms_self ts)
 atom_self (Equal s t) = let h = replaced_self s in let k = replaced_self t in λ i. Equal (h i) (k i)
+
+atoms_self : (as' : List Atom) → map (replace_in_atom itself) as' ≡ as'
+atoms_self [] = refl
+atoms_self (a ∷ as') = let h : replace_in_atom itself a ≡ a = atom_self a in let k : map (replace_in_atom itself) as' ≡ as' = atoms_self as' in λ i. h i ∷ k i
+
+pub applied_none : (c : Clause) → apply [] c ≡ c
+applied_none c =
+    let f = atoms_self c.constraint in
+    let g = atoms_self c.antecedent in
+    let h = atoms_self c.succedent in
+    λ i. record { constraint = f i; antecedent = g i; succedent = h i }
 
 -- ---- being the same
 
