@@ -164,6 +164,102 @@ fn clauses_at_the_limit_of_symbols(rt: HostRuntime) -> Result<(), Fail> {
     Ok(())
 }
 
+/// Predicates without arguments: `P0`, `P1` and so on.
+fn predicates(alloc: Global, count: usize) -> Result<String, Fail> {
+    let mut text = String::from_str(alloc, "predicates[")?;
+    for k in 0..count {
+        let comma = if k == 0 { "" } else { "," };
+        let entry = format!(in alloc; "{comma}(P{k},0)")?;
+        text.push_str(entry.as_str())?;
+    }
+    text.push_str("].")?;
+    Ok(text)
+}
+
+/// A group of four clauses over four predicates from this number on. The first two have one conclusion that is kept;
+/// all else that follows, the fourth subsumes.
+fn add_group(alloc: Global, clauses: &mut Vec<String>, first: usize) -> Result<(), Fail> {
+    let (second, third, fourth) = (first + 1, first + 2, first + 3);
+    clauses.push(format!(in alloc; "or(P{first},P{second})")?)?;
+    clauses.push(format!(in alloc; "or(not(P{first}),P{third})")?)?;
+    clauses.push(format!(in alloc; "or(not(P{third}),P{fourth})")?)?;
+    clauses.push(format!(in alloc; "P{fourth}")?)?;
+    Ok(())
+}
+
+/// The next number by the rule of Park and Miller (Random number generators: good ones are hard to find, 1988).
+fn next_random(number: u64) -> u64
+    requires { number < 2147483647 }
+    ensures { result < 2147483647 }
+{
+    number * 16807 % 2147483647
+}
+
+/// A literal of one of so many predicates, drawn by the number.
+fn drawn_literal(alloc: Global, number: u64, count: u64) -> Result<String, Fail>
+    requires { 0 < count }
+{
+    let predicate = number % count;
+    let literal = if number / count % 2 == 0 {
+        format!(in alloc; "P{predicate}")?
+    } else {
+        format!(in alloc; "not(P{predicate})")?
+    };
+    Ok(literal)
+}
+
+/// Runs on the clauses over so many predicates without arguments.
+fn answers_of(
+    rt: &impl std::process::Abort,
+    alloc: Global,
+    words: &[&str],
+    count: usize,
+    clauses: &[String],
+    status: u8,
+    text: &str,
+) -> Result<Answer, Fail> {
+    let mut list = Vec::with_capacity(alloc, clauses.len())?;
+    for clause in clauses {
+        list.push(clause.as_str())?;
+    }
+    let symbols = predicates(alloc, count)?;
+    let input = problem(alloc, symbols.as_str(), list.as_slice())?;
+    answers(rt, alloc, words, input.as_str(), status, text)
+}
+
+#[test]
+fn completes_two_hundred_clauses(rt: HostRuntime) -> Result<(), Fail> {
+    let alloc = rt.alloc();
+    let mut clauses = Vec::new(alloc);
+    for k in 0..50 {
+        add_group(alloc, &mut clauses, 4 * k)?;
+    }
+    let text = "Completion found.\nCase 0: kept 250, put off 0.\n";
+    answers_of(&rt, alloc, &["prove"], 200, clauses.as_slice(), 1, text)?;
+    Ok(())
+}
+
+#[test]
+fn answers_five_hundred_drawn_clauses(rt: HostRuntime) -> Result<(), Fail> {
+    let alloc = rt.alloc();
+    let mut clauses = Vec::new(alloc);
+    let mut number = 1;
+    for _ in 0..500 {
+        let mut clause = String::from_str(alloc, "or(false")?;
+        for _ in 0..3 {
+            number = next_random(number);
+            clause.push_str(",")?;
+            clause.push_str(drawn_literal(alloc, number, 120)?.as_str())?;
+        }
+        clause.push_str(")")?;
+        clauses.push(clause)?;
+    }
+    let words = ["prove", "--rounds", "300"];
+    let text = "Gave up: rounds 300.\n";
+    answers_of(&rt, alloc, &words, 120, clauses.as_slice(), 2, text)?;
+    Ok(())
+}
+
 #[test]
 fn refusals(rt: HostRuntime) -> Result<(), Fail> {
     let alloc = rt.alloc();
