@@ -5,22 +5,22 @@ It belongs to no gate. Build the program first: `rt run` in crates/spass.
 """
 import sys
 
-from problems import chain, model_clauses, random_clauses
+from problems import chain, groups, random_clauses
 from timing import built_program, measure, others, peak_megabytes
 
-SECONDS = 120
+SECONDS = 60
 
 
-def row(title, dfg, tptp, program):
-    ours = measure([program, "prove"], dfg, SECONDS)
+def row(title, dfg, tptp, command):
+    ours = measure(command, dfg, SECONDS)
     if ours is None:
         print(f"{title}: no answer within {SECONDS} s")
         return
     first = ours[0].splitlines()[0] if ours[0] else "(nothing)"
-    memory = peak_megabytes([program, "prove"], dfg)
+    memory = peak_megabytes(command, dfg)
     line = f"{title}: {first} {ours[1]:.3f} s, {memory:.0f} MB"
-    for name, command, text in others(dfg, tptp):
-        theirs = measure(command, text, SECONDS)
+    for name, other, text in others(dfg, tptp):
+        theirs = measure(other, text, SECONDS)
         line += f"; {name} {theirs[1]:.3f} s, ratio {ours[1] / theirs[1]:.2f}" if theirs else f"; {name} no answer"
     print(line, flush=True)
 
@@ -30,9 +30,11 @@ def main():
     if program is None:
         sys.exit("build the program first: rt run in crates/spass")
     for links in (100, 300, 1500):
-        row(f"chain of {links} links", *chain(links), str(program))
-    row("200 clauses with a model", *model_clauses(200, 60, 1), str(program))
-    row("500 random clauses of three literals", *random_clauses(500, 100, 1), str(program))
+        row(f"chain of {links} links", *chain(links), [str(program), "prove"])
+    row("200 clauses with a model", *groups(50), [str(program), "prove"])
+    for rounds in ("300", "1000"):
+        title = f"500 random clauses of three literals, {rounds} rounds"
+        row(title, *random_clauses(500, 100, 1), [str(program), "prove", "--rounds", rounds])
 
 
 if __name__ == "__main__":

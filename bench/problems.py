@@ -37,22 +37,24 @@ def chain(links):
     return problem(["c"], predicates, clauses)
 
 
-def three_literals(count, atoms, seed, signs):
-    """So many clauses of three literals over different atoms; `signs` draws the signs of a clause."""
+def random_clauses(count, atoms, seed):
+    """So many clauses of three literals over different atoms, with any signs."""
     source = random.Random(seed)
     predicates = [f"p{i}" for i in range(atoms)]
     clauses = []
     for _ in range(count):
         chosen = source.sample(predicates, 3)
-        clauses.append([(name, sign, "c") for name, sign in zip(chosen, signs(source))])
+        clauses.append([(name, source.random() < 0.5, "c") for name in chosen])
     return problem(["c"], predicates, clauses)
 
 
-def random_clauses(count, atoms, seed):
-    """Random clauses of three literals with any signs."""
-    return three_literals(count, atoms, seed, lambda source: [source.random() < 0.5 for _ in range(3)])
-
-
-def model_clauses(count, atoms, seed):
-    """Random clauses of three literals, each with a negative one: true where all atoms are false."""
-    return three_literals(count, atoms, seed, lambda source: [False] + [source.random() < 0.5 for _ in range(2)])
+def groups(count):
+    """So many groups of four clauses with a model. In each group one conclusion is new, and one clause subsumes the rest."""
+    predicates = []
+    clauses = []
+    for k in range(count):
+        p, q, r, s = names = [f"{letter}{k}" for letter in "pqrs"]
+        predicates += names
+        clauses += [[(p, True, "c"), (q, True, "c")], [(p, False, "c"), (r, True, "c")]]
+        clauses += [[(r, False, "c"), (s, True, "c")], [(s, True, "c")]]
+    return problem(["c"], predicates, clauses)
