@@ -1,0 +1,3 @@
+pub mod Comparisons
+pub mod Views
+pub mod Tallies

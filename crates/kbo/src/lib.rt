@@ -1,0 +1,10 @@
+//! The order on terms, and the maximal and eligible places of a clause.
+#![tactic(auto)]
+
+mod order;
+mod side;
+mod tally;
+mod view;
+
+pub use order::Order;
+pub use view::View;
