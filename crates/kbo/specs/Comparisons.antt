@@ -25,7 +25,7 @@ then_by Incomparable o = Incomparable
 
 -- two heads, each a symbol with its number of arguments
 abbrev pub compare_heads : Symbol → ℕ → Symbol → ℕ → Order
-compare_heads f m g n = if symbol_eq f g && (m == n) then Equal else (if is_greater_head f m g n then Greater else Less)
+compare_heads f m g n = if (m == n) && symbol_eq f g then Equal else (if is_greater_head f m g n then Greater else Less)
 
 -- two lists side by side: how the first terms that differ stand
 abbrev pub compare_lists : List Term → List Term → Order

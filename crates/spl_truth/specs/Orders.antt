@@ -52,7 +52,7 @@ first_differing (p ∷ ps) (t ∷ ts) = if term_eq p.0 t then first_differing ps
 -- the same head and the greater one of the first arguments that differ
 abbrev pub is_greater_at : Symbol → List (Term × (Term → Bool)) → Term-F Term → Bool
 is_greater_at f ps (layer.Var w) = false
-is_greater_at f ps (layer.App g ts) = is_greater_head f (length ps) g (length ts) || ((symbol_eq f g && (length ps == length ts)) && first_differing ps ts)
+is_greater_at f ps (layer.App g ts) = is_greater_head f (length ps) g (length ts) || (((length ps == length ts) && symbol_eq f g) && first_differing ps ts)
 
 -- the variable condition, and the greater weight or the same weight and what else decides
 abbrev pub by_weight : Term → Term → Bool → Bool
