@@ -1,2 +1,4 @@
 pub mod CompareLemmas
+pub mod TimesLemmas
+pub mod WalkLemmas
 pub mod TallyLemmas

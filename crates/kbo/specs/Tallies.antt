@@ -1,6 +1,6 @@
 -- A tally of the variables on two sides. A balance stands for how many more occurrences a variable has on the left than
 -- on the right, above 4,294,967,296.
-use Rattle.std.specs.Prelude.{◌≡◌, ℕ, ◌+◌, ◌-◌, ◌<◌, ◌≤◌, Bool, false, ◌||◌, nat_le, List, slice_set, slice_index, sum_by}
+use Rattle.std.specs.Prelude.{◌≡◌, ℕ, ◌+◌, ◌-◌, ◌<◌, ◌≤◌, Bool, false, ◌||◌, nat_le, List, length, slice_set, slice_index}
 use Rattle.spl_truth.specs.Orders.{times}
 use Rattle.kbo.specs.declared.side.Side.{Side}
 use Rattle.kbo.specs.declared.side.Side.TheVariants.{Left, Right}
@@ -34,10 +34,19 @@ abbrev pub on_right : Side → ℕ → ℕ
 on_right Left n = 0
 on_right Right n = n
 
--- the balances and weights of a tally say how two terms differ, or two lists, of these variables and weights
+-- a tally of nothing
+pub record IsEven (n : ℕ) (balances : List ℕ) (beyond : Bool) (left right : ℕ) : Type 0 where
+  pub each : (v : ℕ) → v < n → slice_index balances v ≡ 4294967296
+  pub known : beyond ≡ false
+  pub no_left : left ≡ 0
+  pub no_right : right ≡ 0
+
+-- the tally says how two terms, or two lists, differ that have these variables and weights
 pub record IsTally (n : ℕ) (balances : List ℕ) (beyond : Bool) (left right : ℕ) (vs ws : List ℕ) (a b : ℕ) : Type 0 where
   pub each : (v : ℕ) → v < n → slice_index balances v + times v ws ≡ 4294967296 + times v vs
   pub others : beyond ≡ false → (v : ℕ) → n ≤ v → times v vs ≡ times v ws
   pub weights : left + b ≡ right + a
   pub left_within : left ≤ a
   pub right_within : right ≤ b
+  pub few_left : length vs ≤ a
+  pub few_right : length ws ≤ b

@@ -5,6 +5,7 @@ mod order;
 mod side;
 mod tally;
 mod view;
+mod walking;
 
 pub use order::Order;
 pub use view::View;
