@@ -1,7 +1,7 @@
 -- What counting does to a tally.
 use Rattle.std.proofs.Common.{◌≡◌, ℕ, suc, ◌+◌, ◌-◌, ◌≤◌, ◌<◌, Bool, true, false, ◌||◌, ◌==◌, nat_lt, nat_le, if◌then◌else◌, List, [], ◌∷◌, ◌++◌, length, get_or, set, fold, map, sum, sum_by, arith, refl, sym, ap, ◌∙◌, eq-eqb, get_or-set_same, get_or-set_other, length-append}
 use Rattle.std.specs.List.{flat_map}
-use Rattle.std.proofs.lemmas.Bool.{eqb-true, ltb-true, ltb-false, leb-true, leb-false, lt-ltb, false≢true}
+use Rattle.std.proofs.lemmas.Bool.{eqb-true, ltb-true, ltb-false, leb-true, leb-false, lt-ltb, le-ltb, false≢true}
 use Rattle.std.proofs.lemmas.List.{length-set}
 use Rattle.std.proofs.lemmas.List.Sums.{sum_by-cons, get_or-le-sum_by}
 use Rattle.std.proofs.lemmas.Grind.{fold-append}
@@ -10,6 +10,9 @@ use Rattle.spl_terms.proofs.NumberLemmas.{term_variables-Var, term_variables-App
 use Rattle.kbo.specs.declared.side.Side.{Side}
 use Rattle.kbo.specs.declared.side.Side.TheVariants.{Left, Right}
 use Rattle.spl_truth.specs.Orders.{times, contains_each}
+use Rattle.kbo.specs.declared.order.Order.{Order}
+use Rattle.kbo.specs.declared.order.Order.TheVariants.{Greater, Less, Equal, Incomparable}
+use Rattle.kbo.specs.Comparisons.{decided, judged}
 use Rattle.kbo.specs.Tallies.{above, below, raised, lowered, counted, noted, on_left, on_right, IsEven, IsTally}
 use Rattle.kbo.proofs.TimesLemmas.{times-append, times-cons, times-within, contains_at, contains_all, same_test}
 
@@ -175,3 +178,20 @@ module _ (n : ℕ) (bs : List ℕ) (beyond : Bool) (l r : ℕ) (vs ws : List ℕ
       same_test (surplus == 0) (contains_each ws vs)
       (λ h. no_surplus known (sym e ∙ eqb-true surplus 0 h))
       (λ h. eq-eqb surplus 0 (e ∙ surplus_none h))
+
+-- ---- the weights
+
+by_weights : (c d : Bool) (m n : ℕ) (o : Order) → (x y : Bool) → nat_lt n m ≡ x → nat_lt m n ≡ y → judged c d m n o ≡ (if x then (if c then Greater else Incomparable) else (if y then (if d then Less else Incomparable) else decided c d o))
+by_weights c d m n o x y p q = λ i. if p i then (if c then Greater else Incomparable) else (if q i then (if d then Less else Incomparable) else decided c d o)
+
+module _ (l r m n : ℕ) (weights : l + n ≡ r + m) (c d : Bool) (o : Order) where
+  pub left_heavier : r < l → judged c d m n o ≡ (if c then Greater else Incomparable)
+  left_heavier h = by_weights c d m n o true (nat_lt m n) (lt-ltb n m (omega arith)) refl
+
+  pub right_heavier : l < r → judged c d m n o ≡ (if d then Less else Incomparable)
+  right_heavier h = by_weights c d m n o false true (le-ltb n m (omega arith)) (lt-ltb m n (omega arith))
+
+  pub as_heavy : l ≡ r → judged c d m n o ≡ decided c d o
+  as_heavy h = by_weights c d m n o false false (le-ltb n m (omega arith)) (le-ltb m n (omega arith))
+
+pub ruleset judging_laws = (left_heavier, right_heavier, as_heavy)

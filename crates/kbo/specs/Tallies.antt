@@ -1,6 +1,9 @@
 -- A tally of the variables on two sides. A balance stands for how many more occurrences a variable has on the left than
 -- on the right, above 4,294,967,296.
-use Rattle.std.specs.Prelude.{◌≡◌, ℕ, ◌+◌, ◌-◌, ◌<◌, ◌≤◌, Bool, false, ◌||◌, nat_le, List, length, slice_set, slice_index}
+use Rattle.std.specs.Prelude.{◌≡◌, ℕ, ◌+◌, ◌-◌, ◌<◌, ◌≤◌, Bool, false, ◌||◌, nat_le, List, length, slice_set, slice_index, sum, map}
+use Rattle.std.specs.List.{flat_map}
+use Rattle.spl_terms.specs.declared.term.Term.{Term}
+use Rattle.spl_terms.specs.Terms.{term_symbols, term_variables}
 use Rattle.spl_truth.specs.Orders.{times}
 use Rattle.kbo.specs.declared.side.Side.{Side}
 use Rattle.kbo.specs.declared.side.Side.TheVariants.{Left, Right}
@@ -50,3 +53,9 @@ pub record IsTally (n : ℕ) (balances : List ℕ) (beyond : Bool) (left right :
   pub right_within : right ≤ b
   pub few_left : length vs ≤ a
   pub few_right : length ws ≤ b
+
+abbrev pub TalliesTerms : ℕ → List ℕ → Bool → ℕ → ℕ → Term → Term → Type 0
+TalliesTerms n balances beyond left right s t = IsTally n balances beyond left right (term_variables s) (term_variables t) (term_symbols s) (term_symbols t)
+
+abbrev pub TalliesLists : ℕ → List ℕ → Bool → ℕ → ℕ → List Term → List Term → Type 0
+TalliesLists n balances beyond left right ss ts = IsTally n balances beyond left right (flat_map term_variables ss) (flat_map term_variables ts) (sum (map term_symbols ss)) (sum (map term_symbols ts))

@@ -1,9 +1,13 @@
-ghost use Rattle.std.specs.Prelude.{◌≡◌, ◌+◌, ◌<◌, ◌≤◌, ◌||◌, false, fold, sum, map, sum_by, nat_le, replicate};
+ghost use Rattle.std.specs.Prelude.{◌≡◌, ◌+◌, ◌<◌, ◌≤◌, ◌||◌, false, fold, length, sum, map, sum_by, replicate, if◌then◌else◌};
 ghost use Rattle.std.specs.List.{flat_map};
 ghost use Rattle.spl_terms.specs.Terms.{term_symbols, term_variables};
-ghost use Rattle.kbo.specs.Tallies.{above, below, raised, lowered, counted, noted, on_left, on_right};
+ghost use Rattle.spl_truth.specs.Orders.{contains_each};
+ghost use Rattle.kbo.specs.Comparisons.{judged};
+ghost use Rattle.kbo.specs.Tallies.{above, below, raised, lowered, counted, noted, on_left, on_right, TalliesLists};
 
+use crate::order::Order;
 use crate::side::Side;
+use crate::walking::contains_each;
 use spl_terms::Term;
 
 /// The balance of a variable that occurs as often on the left as on the right.
@@ -18,6 +22,7 @@ pub(crate) struct Tally<const N: usize> {
     left: u64,
     right: u64,
     beyond: bool,
+    ghost size_is: { length balances ≡ N },
     ghost surplus_is: { surplus ≡ sum_by above balances },
     ghost deficit_is: { deficit ≡ sum_by below balances },
     ghost surplus_within: { surplus ≤ left },
@@ -147,6 +152,82 @@ impl<const N: usize> Tally<N> {
     {
         for term in terms {
             self.count(side, term);
+        }
+    }
+
+    /// Whether no variable occurs more often in the others than in the terms.
+    fn left_contains(&self, terms: &[Term], others: &[Term]) -> bool
+        requires tally { TalliesLists N self.now.balances self.now.beyond self.now.left self.now.right terms.now others.now }
+        requires terms_size { sum (map term_symbols terms.now) ≤ 4294967295 }
+        requires others_size { sum (map term_symbols others.now) ≤ 4294967295 }
+        ensures { result ≡ contains_each (flat_map term_variables terms.now) (flat_map term_variables others.now) }
+    {
+        if self.beyond {
+            contains_each(terms, others)
+        } else {
+            self.deficit == 0
+        }
+    }
+
+    /// Whether no variable occurs more often in the terms than in the others.
+    fn right_contains(&self, terms: &[Term], others: &[Term]) -> bool
+        requires tally { TalliesLists N self.now.balances self.now.beyond self.now.left self.now.right terms.now others.now }
+        requires terms_size { sum (map term_symbols terms.now) ≤ 4294967295 }
+        requires others_size { sum (map term_symbols others.now) ≤ 4294967295 }
+        ensures { result ≡ contains_each (flat_map term_variables others.now) (flat_map term_variables terms.now) }
+    {
+        if self.beyond {
+            contains_each(others, terms)
+        } else {
+            self.surplus == 0
+        }
+    }
+
+    fn if_left_contains(&self, terms: &[Term], others: &[Term]) -> Order
+        requires tally { TalliesLists N self.now.balances self.now.beyond self.now.left self.now.right terms.now others.now }
+        requires terms_size { sum (map term_symbols terms.now) ≤ 4294967295 }
+        requires others_size { sum (map term_symbols others.now) ≤ 4294967295 }
+        ensures { result ≡ (if contains_each (flat_map term_variables terms.now) (flat_map term_variables others.now) then Order.Greater else Order.Incomparable) }
+    {
+        if self.left_contains(terms, others) {
+            Order::Greater
+        } else {
+            Order::Incomparable
+        }
+    }
+
+    fn if_right_contains(&self, terms: &[Term], others: &[Term]) -> Order
+        requires tally { TalliesLists N self.now.balances self.now.beyond self.now.left self.now.right terms.now others.now }
+        requires terms_size { sum (map term_symbols terms.now) ≤ 4294967295 }
+        requires others_size { sum (map term_symbols others.now) ≤ 4294967295 }
+        ensures { result ≡ (if contains_each (flat_map term_variables others.now) (flat_map term_variables terms.now) then Order.Less else Order.Incomparable) }
+    {
+        if self.right_contains(terms, others) {
+            Order::Less
+        } else {
+            Order::Incomparable
+        }
+    }
+
+    /// How two applications stand by their weights and variables, and where the weights are the same by what is left to
+    /// decide. The tally is that of their arguments.
+    #[tactic(auto, using(crate::proofs::TallyLemmas::judging_laws))]
+    pub(crate) fn judge(&self, terms: &[Term], others: &[Term], lower: Order) -> Order
+        requires tally { TalliesLists N self.now.balances self.now.beyond self.now.left self.now.right terms.now others.now }
+        requires terms_size { sum (map term_symbols terms.now) ≤ 4294967295 }
+        requires others_size { sum (map term_symbols others.now) ≤ 4294967295 }
+        ensures { result ≡ judged (contains_each (flat_map term_variables terms.now) (flat_map term_variables others.now)) (contains_each (flat_map term_variables others.now) (flat_map term_variables terms.now)) (sum (map term_symbols terms.now)) (sum (map term_symbols others.now)) lower }
+    {
+        if self.left > self.right {
+            return self.if_left_contains(terms, others);
+        }
+        if self.left < self.right {
+            return self.if_right_contains(terms, others);
+        }
+        match lower {
+            Order::Greater => self.if_left_contains(terms, others),
+            Order::Less => self.if_right_contains(terms, others),
+            _ => lower,
         }
     }
 }
