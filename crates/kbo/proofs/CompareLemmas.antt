@@ -1,16 +1,19 @@
 -- One level of a comparison decides it.
-use Rattle.std.proofs.Common.{◌≡◌, ℕ, ◌+◌, ◌≤◌, ◌<◌, Bool, true, false, ◌&&◌, ◌||◌, ◌==◌, nat_lt, nat_le, if◌then◌else◌, List, [], ◌∷◌, length, map, sum, count_by, refl, sym, ap, ◌∙◌, arith, suc}
+use Rattle.std.proofs.Common.{◌≡◌, ℕ, ◌+◌, ◌≤◌, ◌<◌, Bool, true, false, ◌&&◌, ◌||◌, ◌==◌, nat_lt, nat_le, if◌then◌else◌, List, [], ◌∷◌, length, map, sum, count_by, refl, sym, ap, subst, ◌∙◌, arith, suc}
 use Rattle.std.specs.List.{list_any, flat_map}
 use Rattle.std.proofs.Common.{eq-eqb}
 use Rattle.std.proofs.lemmas.Bool.{eqb-true, ltb-true, ltb-false, lt-ltb, le-ltb, false≢true}
 use Rattle.spl_terms.specs.declared.term.Symbol.{Symbol}
 use Rattle.spl_terms.specs.declared.term.Term.{Term, Var, App}
 use Rattle.spl_terms.specs.Terms.{term_symbols, term_variables, term_eq, terms_eq, symbol_eq}
-use Rattle.spl_terms.proofs.TermLemmas.{and-parts, term_eq-true, terms_eq-same, term_eq-Var-Var, term_eq-Var-App, term_eq-App-Var, term_eq-App-App}
-use Rattle.spl_truth.specs.Orders.{is_greater_head, covers, by_weight, is_greater}
+use Rattle.spl_terms.proofs.TermLemmas.{term_symbols-Var, term_symbols-App, and-parts, term_eq-true, terms_eq-same, term_eq-Var-Var, term_eq-Var-App, term_eq-App-Var, term_eq-App-App}
+use Rattle.spl_truth.specs.Orders.{times, contains_each, is_greater_head, covers, by_weight, is_greater}
 use Rattle.spl_truth.proofs.OrderLemmas.{first_greater, same_head, by_arguments, is_greater-Var, is_greater-App-Var, is_greater-App-App, heavier, lighter, balanced, HeadCases, alike, first, second, head_cases, term_eq-sym, lists_asymmetric}
 use Rattle.kbo.specs.declared.order.Order.{Order}
 use Rattle.kbo.specs.declared.order.Order.TheVariants.{Greater, Less, Equal, Incomparable}
+use Rattle.kbo.proofs.TimesLemmas.{has_times, none_times, contains_all, contains_at}
+use Rattle.kbo.proofs.WalkLemmas.{times-same, times-other, few}
+use Rattle.spl_terms.proofs.NumberLemmas.{term_variables-App}
 use Rattle.kbo.specs.Comparisons.{compare, then_by, compare_heads, compare_lists, decided, judged}
 
 -- ---- lists
@@ -149,3 +152,123 @@ module _ (f : Symbol) (ss : List Term) (g : Symbol) (ts : List Term) where
 
 pub compare_variables : (v w : ℕ) → compare (Var v) (Var w) ≡ (if v == w then Equal else Incomparable)
 compare_variables v w = λ i. picked (term_eq-Var-Var v w i) (is_greater-Var v (Var w) i) (is_greater-Var w (Var v) i)
+
+-- a variable against an application, and the other way round
+module _ (v : ℕ) (f : Symbol) (ts : List Term) where
+  abbrev occurs : Bool
+  occurs = list_any (λ w. v == w) (flat_map term_variables ts)
+
+  by_variable : by_weight (App f ts) (Var v) false ≡ occurs
+  by_variable = by_test occurs refl
+    where
+      by_test : (b : Bool) → list_any (λ w. v == w) (flat_map term_variables ts) ≡ b → by_weight (App f ts) (Var v) false ≡ b
+      by_test true h =
+          let here : 0 < times v (flat_map term_variables ts) = has_times v (flat_map term_variables ts) h in
+          let more : term_symbols (Var v) < term_symbols (App f ts) = omega (arith, term_symbols-Var v, term_symbols-App f ts, few v ts) in
+          heavier (App f ts) (Var v) false more
+          ∙ contains_all (term_variables (App f ts)) (term_variables (Var v)) (λ w. as_often w (v == w) refl here)
+        where
+          as_often : (w : ℕ) (c : Bool) → (v == w) ≡ c → 0 < times v (flat_map term_variables ts) → times w (term_variables (Var v)) ≤ times w (term_variables (App f ts))
+          as_often w true e here =
+              let same : v ≡ w = eqb-true v w e in
+              subst (λ (x : ℕ). times x (term_variables (Var v)) ≤ times x (term_variables (App f ts))) same (omega (arith, times-same v, ap (times v) (term_variables-App f ts)))
+          as_often w false e here = omega (arith, times-other w v (λ s. false≢true (sym e ∙ eq-eqb v w (sym s))))
+      by_test false h = ap (λ b. b && (nat_lt (term_symbols (Var v)) (term_symbols (App f ts)) || ((term_symbols (App f ts) == term_symbols (Var v)) && false))) (uncovered (covers (App f ts) (Var v)) refl)
+        where
+          uncovered : (b : Bool) → covers (App f ts) (Var v) ≡ b → b ≡ false
+          uncovered false e = refl
+          uncovered true e = absurd (omega (arith, contains_at (term_variables (App f ts)) (term_variables (Var v)) e v, times-same v, ap (times v) (term_variables-App f ts), none_times v (flat_map term_variables ts) h))
+
+  pub compare_variable_with : compare (Var v) (App f ts) ≡ (if occurs then Less else Incomparable)
+  compare_variable_with = (λ i. picked (term_eq-Var-App v f ts i) (is_greater-Var v (App f ts) i) ((is_greater-App-Var f ts v ∙ by_variable) i))
+
+  pub compare_with_variable : compare (App f ts) (Var v) ≡ (if occurs then Greater else Incomparable)
+  compare_with_variable = (λ i. picked (term_eq-App-Var f ts v i) ((is_greater-App-Var f ts v ∙ by_variable) i) (is_greater-Var v (App f ts) i)) ∙ settled_without occurs
+    where
+      settled_without : (b : Bool) → picked false b false ≡ (if b then Greater else Incomparable)
+      settled_without true = refl
+      settled_without false = refl
+
+-- ---- the same by the lists of arguments
+
+judged_more : (c d : Bool) (m n : ℕ) (o : Order) → judged c d (m + 1) (n + 1) o ≡ judged c d m n o
+judged_more c d m n o = λ i. if less n m i then (if c then Greater else Incomparable) else (if less m n i then (if d then Less else Incomparable) else decided c d o)
+  where
+    less : (x y : ℕ) → nat_lt (x + 1) (y + 1) ≡ nat_lt x y
+    less x y = by_test (nat_lt x y) refl
+      where
+        by_test : (b : Bool) → nat_lt x y ≡ b → nat_lt (x + 1) (y + 1) ≡ b
+        by_test true e = lt-ltb (x + 1) (y + 1) (omega (arith, ltb-true x y e))
+        by_test false e = le-ltb (x + 1) (y + 1) (omega (arith, ltb-false x y e))
+
+pub compare_by_lists : (f : Symbol) (ss : List Term) (g : Symbol) (ts : List Term) → compare (App f ss) (App g ts) ≡ judged (contains_each (flat_map term_variables ss) (flat_map term_variables ts)) (contains_each (flat_map term_variables ts) (flat_map term_variables ss)) (sum (map term_symbols ss)) (sum (map term_symbols ts)) (then_by (compare_heads f (length ss) g (length ts)) (compare_lists ss ts))
+compare_by_lists f ss g ts =
+    compare_apps f ss g ts
+    ∙ (λ i. judged (contains_each (term_variables-App f ss i) (term_variables-App g ts i)) (contains_each (term_variables-App g ts i) (term_variables-App f ss i)) (term_symbols-App f ss i) (term_symbols-App g ts i) (lower f ss g ts))
+    ∙ judged_more (contains_each (flat_map term_variables ss) (flat_map term_variables ts)) (contains_each (flat_map term_variables ts) (flat_map term_variables ss)) (sum (map term_symbols ss)) (sum (map term_symbols ts)) (lower f ss g ts)
+
+-- only what is left to decide can make terms equal
+pub judged_equal : (c d : Bool) (m n : ℕ) (o : Order) → judged c d m n o ≡ Equal → o ≡ Equal
+judged_equal c d m n o e = by_test (nat_lt n m) (nat_lt m n) c d o e
+  where
+    by_test : (x y c d : Bool) (o : Order) → (if x then (if c then Greater else Incomparable) else (if y then (if d then Less else Incomparable) else decided c d o)) ≡ Equal → o ≡ Equal
+    by_test true y true d o e = absurd (cc)
+    by_test true y false d o e = absurd (cc)
+    by_test false true c true o e = absurd (cc)
+    by_test false true c false o e = absurd (cc)
+    by_test false false true d Greater e = absurd (cc)
+    by_test false false false d Greater e = absurd (cc)
+    by_test false false c true Less e = absurd (cc)
+    by_test false false c false Less e = absurd (cc)
+    by_test false false c d Equal e = refl
+    by_test false false c d Incomparable e = absurd (cc)
+
+pub other_variables : (v w : ℕ) → (v ≡ w → ⊥) → Incomparable ≡ compare (Var v) (Var w)
+other_variables v w differ = sym (compare_variables v w ∙ by_test (v == w) refl)
+  where
+    by_test : (b : Bool) → (v == w) ≡ b → (if b then Equal else Incomparable) ≡ Incomparable
+    by_test true e = absurd (differ (eqb-true v w e))
+    by_test false e = refl
+
+pub same_variables : (v w : ℕ) → v ≡ w → Equal ≡ compare (Var v) (Var w)
+same_variables v w e = sym (compare_variables v w ∙ ap (λ b. if b then Equal else Incomparable) (eq-eqb v w e))
+
+-- what the code finds at an application
+module _ (f : Symbol) (ss : List Term) (g : Symbol) (ts : List Term) (heads below found : Order) (judgement : found ≡ judged (contains_each (flat_map term_variables ss) (flat_map term_variables ts)) (contains_each (flat_map term_variables ts) (flat_map term_variables ss)) (sum (map term_symbols ss)) (sum (map term_symbols ts)) below) where
+  pub is_compared : heads ≡ compare_heads f (length ss) g (length ts) → below ≡ then_by heads (compare_lists ss ts) → found ≡ compare (App f ss) (App g ts)
+  is_compared h e =
+      judgement
+      ∙ ap (judged (contains_each (flat_map term_variables ss) (flat_map term_variables ts)) (contains_each (flat_map term_variables ts) (flat_map term_variables ss)) (sum (map term_symbols ss)) (sum (map term_symbols ts))) (e ∙ ap (λ o. then_by o (compare_lists ss ts)) h)
+      ∙ sym (compare_by_lists f ss g ts)
+
+  pub is_equal_below : found ≡ Equal → below ≡ Equal
+  is_equal_below e = judged_equal (contains_each (flat_map term_variables ss) (flat_map term_variables ts)) (contains_each (flat_map term_variables ts) (flat_map term_variables ss)) (sum (map term_symbols ss)) (sum (map term_symbols ts)) below (sym judgement ∙ e)
+
+-- what the code finds at a variable
+module _ (v : ℕ) (f : Symbol) (ts l : List Term) (s t : Term) (found : Order) (lent : l ≡ ts) where
+  pub variable_compared : s ≡ Var v → t ≡ App f ts → found ≡ (if list_any (λ w. v == w) (flat_map term_variables l) then Less else Incomparable) → found ≡ compare s t
+  variable_compared e h k =
+      k ∙ ap (λ l. if list_any (λ w. v == w) (flat_map term_variables l) then Less else Incomparable) lent
+      ∙ sym (compare_variable_with v f ts)
+      ∙ (λ i. compare (sym e i) (sym h i))
+
+  pub compared_with_variable : s ≡ App f ts → t ≡ Var v → found ≡ (if list_any (λ w. v == w) (flat_map term_variables l) then Greater else Incomparable) → found ≡ compare s t
+  compared_with_variable e h k =
+      k ∙ ap (λ l. if list_any (λ w. v == w) (flat_map term_variables l) then Greater else Incomparable) lent
+      ∙ sym (compare_with_variable v f ts)
+      ∙ (λ i. compare (sym e i) (sym h i))
+
+pub variables_compared : (v w : ℕ) (s t : Term) → s ≡ Var v → t ≡ Var w → (v ≡ w → ⊥) → Incomparable ≡ compare s t
+variables_compared v w s t e h differ = other_variables v w differ ∙ (λ i. compare (sym e i) (sym h i))
+
+pub first_decides_lists : (ss ts : List Term) (s t : Term) (rest more : List Term) (o : Order) → ss ≡ s ∷ rest → ts ≡ t ∷ more → o ≡ compare s t → (o ≡ Equal → ⊥) → o ≡ compare_lists ss ts
+first_decides_lists ss ts s t rest more o e h k differ =
+    stays o differ
+    ∙ ap (λ p. then_by p (compare_lists rest more)) k
+    ∙ (λ i. compare_lists (sym e i) (sym h i))
+  where
+    stays : (p : Order) → (p ≡ Equal → ⊥) → p ≡ then_by p (compare_lists rest more)
+    stays Greater d = refl
+    stays Less d = refl
+    stays Equal d = absurd (d refl)
+    stays Incomparable d = refl

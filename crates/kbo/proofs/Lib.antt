@@ -1,4 +1,5 @@
-pub mod CompareLemmas
 pub mod TimesLemmas
 pub mod WalkLemmas
+pub mod CompareLemmas
 pub mod TallyLemmas
+pub mod OrderingLemmas
