@@ -8,7 +8,7 @@ use Rattle.spl_terms.specs.declared.term.Term.{Term, Var, App}
 use Rattle.spl_terms.specs.Terms.{term_symbols, term_variables, term_eq, terms_eq, symbol_eq}
 use Rattle.spl_terms.proofs.TermLemmas.{term_symbols-Var, term_symbols-App, and-parts, term_eq-true, terms_eq-same, term_eq-Var-Var, term_eq-Var-App, term_eq-App-Var, term_eq-App-App}
 use Rattle.spl_truth.specs.Orders.{times, contains_each, is_greater_head, covers, by_weight, is_greater}
-use Rattle.spl_truth.proofs.OrderLemmas.{first_greater, same_head, by_arguments, is_greater-Var, is_greater-App-Var, is_greater-App-App, heavier, lighter, balanced, HeadCases, alike, first, second, head_cases, term_eq-sym, lists_asymmetric}
+use Rattle.spl_truth.proofs.OrderLemmas.{first_greater, same_head, by_arguments, is_greater-Var, is_greater-App-Var, is_greater-App-App, heavier, lighter, balanced, HeadCases, alike, first, second, head_cases, term_eq-sym, asymmetric, lists_asymmetric}
 use Rattle.kbo.specs.declared.order.Order.{Order}
 use Rattle.kbo.specs.declared.order.Order.TheVariants.{Greater, Less, Equal, Incomparable}
 use Rattle.kbo.proofs.TimesLemmas.{has_times, none_times, contains_all, contains_at}
@@ -272,3 +272,41 @@ first_decides_lists ss ts s t rest more o e h k differ =
     stays Less d = refl
     stays Equal d = absurd (d refl)
     stays Incomparable d = refl
+
+-- ---- greater, and nothing else
+
+picked_greater : (e g l : Bool) → picked e g l ≡ Greater → g ≡ true
+picked_greater true g l h = absurd (cc)
+picked_greater false true l h = refl
+picked_greater false false true h = absurd (cc)
+picked_greater false false false h = absurd (cc)
+
+pub greater_where : (s t : Term) → compare s t ≡ Greater → is_greater s t ≡ true
+greater_where s t h = picked_greater (term_eq s t) (is_greater s t) (is_greater t s) h
+
+pub not_greater_where : (s t : Term) → (compare s t ≡ Greater → ⊥) → is_greater s t ≡ false
+not_greater_where s t h = by_test (term_eq s t) (is_greater s t) refl refl
+  where
+    by_test : (a b : Bool) → term_eq s t ≡ a → is_greater s t ≡ b → b ≡ false
+    by_test a false p q = refl
+    by_test false true p q = absurd (h (λ i. picked (p i) (q i) (is_greater t s)))
+    by_test true true p q =
+        let e = term_eq-true s t p in
+        let itself : is_greater s s ≡ true = ap (is_greater s) e ∙ q in
+        absurd (false≢true (sym (asymmetric s s itself) ∙ itself))
+
+-- what the code finds of a member
+module _ (s t : Term) (o : Order) (found : o ≡ compare s t) where
+  pub greater_and : (x r : Bool) → o ≡ Greater → r ≡ x → r ≡ (x && is_greater s t)
+  greater_and x r h e = e ∙ sym (ap (λ b. x && b) (greater_where s t (sym found ∙ h)) ∙ and_true x)
+    where
+      and_true : (b : Bool) → (b && true) ≡ b
+      and_true true = refl
+      and_true false = refl
+
+  pub not_greater_and : (x : Bool) → (o ≡ Greater → ⊥) → false ≡ (x && is_greater s t)
+  not_greater_and x h = sym (ap (λ b. x && b) (not_greater_where s t (λ e. h (found ∙ e))) ∙ and_false x)
+    where
+      and_false : (b : Bool) → (b && false) ≡ false
+      and_false true = refl
+      and_false false = refl

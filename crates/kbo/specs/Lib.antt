@@ -1,3 +1,4 @@
 pub mod Comparisons
 pub mod Views
 pub mod Tallies
+pub mod Measures

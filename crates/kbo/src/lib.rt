@@ -1,7 +1,9 @@
 //! The order on terms, and the maximal and eligible places of a clause.
 #![tactic(auto)]
 
+mod comparing;
 mod heads;
+mod measuring;
 mod order;
 mod ordering;
 mod side;
@@ -9,5 +11,6 @@ mod tally;
 mod view;
 mod walking;
 
+pub use comparing::{compare, compare_views};
 pub use order::Order;
 pub use view::View;

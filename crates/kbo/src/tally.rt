@@ -1,9 +1,9 @@
-ghost use Rattle.std.specs.Prelude.{◌≡◌, ◌+◌, ◌<◌, ◌≤◌, ◌||◌, false, fold, length, sum, map, sum_by, replicate, if◌then◌else◌};
+ghost use Rattle.std.specs.Prelude.{◌≡◌, ◌+◌, ◌<◌, ◌≤◌, fold, length, sum, map, sum_by, if◌then◌else◌};
 ghost use Rattle.std.specs.List.{flat_map};
 ghost use Rattle.spl_terms.specs.Terms.{term_symbols, term_variables};
 ghost use Rattle.spl_truth.specs.Orders.{contains_each};
 ghost use Rattle.kbo.specs.Comparisons.{judged};
-ghost use Rattle.kbo.specs.Tallies.{above, below, raised, lowered, counted, noted, on_left, on_right, TalliesLists};
+ghost use Rattle.kbo.specs.Tallies.{above, below, raised, lowered, counted, noted, on_left, on_right, IsEven, TalliesLists};
 
 use crate::order::Order;
 use crate::side::Side;
@@ -32,10 +32,7 @@ pub(crate) struct Tally<const N: usize> {
 impl<const N: usize> Tally<N> {
     /// A tally of nothing.
     pub(crate) fn new() -> Tally<N>
-        ensures balances { result.balances ≡ replicate N 4294967296 }
-        ensures beyond { result.beyond ≡ false }
-        ensures left { result.left ≡ 0 }
-        ensures right { result.right ≡ 0 }
+        ensures { IsEven N result.balances result.beyond result.left result.right }
     {
         Tally {
             balances: [EVEN; N],

@@ -107,11 +107,11 @@ pub(crate) fn contains_each(terms: &[Term], others: &[Term]) -> bool
 
 #[cycle(bounding)]
 #[tactic(auto, using(crate::proofs::WalkLemmas::variables_laws))]
-fn is_below(term: &Term, bound: u32) -> bool
+fn is_below(term: &Term, bound: usize) -> bool
     ensures { result ≡ list_all (λ v. nat_lt v bound) (term_variables term.now) }
 {
     match term {
-        Term::Var(variable) => *variable < bound,
+        Term::Var(variable) => (*variable as usize) < bound,
         Term::App(_, args) => all_below(args.as_slice(), bound),
     }
 }
@@ -119,7 +119,7 @@ fn is_below(term: &Term, bound: u32) -> bool
 /// Whether each variable of the terms is below the bound.
 #[cycle(bounding)]
 #[tactic(auto, using(crate::proofs::WalkLemmas::variables_laws))]
-pub(crate) fn all_below(terms: &[Term], bound: u32) -> bool
+pub(crate) fn all_below(terms: &[Term], bound: usize) -> bool
     ensures { result ≡ list_all (λ v. nat_lt v bound) (flat_map term_variables terms.now) }
 {
     for term in terms {
