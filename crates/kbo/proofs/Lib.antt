@@ -3,3 +3,5 @@ pub mod WalkLemmas
 pub mod CompareLemmas
 pub mod TallyLemmas
 pub mod OrderingLemmas
+pub mod MeasureLemmas
+pub mod PlaceLemmas

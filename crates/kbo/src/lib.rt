@@ -6,6 +6,7 @@ mod heads;
 mod measuring;
 mod order;
 mod ordering;
+mod places;
 mod side;
 mod tally;
 mod view;
@@ -13,4 +14,5 @@ mod walking;
 
 pub use comparing::{compare, compare_views};
 pub use order::Order;
+pub use places::{eligible, maximal};
 pub use view::View;

@@ -6,7 +6,7 @@ ghost use Rattle.spl_truth.specs.Orders.{is_greater};
 ghost use Rattle.spl_truth.specs.Multisets.{multiplicity, minus, differ, is_greater_multiset};
 ghost use Rattle.spl_truth.specs.Places.{members, measure};
 ghost use Rattle.kbo.specs.Views.{term_of};
-ghost use Rattle.kbo.specs.Measures.{copies, exceeds};
+ghost use Rattle.kbo.specs.Measures.{copies, exceeds, prevails};
 
 use crate::comparing::{compare_views, same_view};
 use crate::order::Order;
@@ -28,6 +28,17 @@ fn copies(part: Part) -> u8
     match part {
         Part::Succedent => 1,
         _ => 2,
+    }
+}
+
+// Which measure is greater where each has copies of one member: by how these stand, and by which has more of them.
+fn prevails(order: Order, more: bool) -> bool
+    ensures { result ≡ prevails order more }
+{
+    match order {
+        Order::Greater => true,
+        Order::Equal => more,
+        _ => false,
     }
 }
 
@@ -134,13 +145,30 @@ impl<'a> Occurrence<'a> {
         }
     }
 
-    /// Whether the measure of this occurrence is greater than that of the other one (Dershowitz and Manna 1979).
-    pub(crate) fn is_greater(self, other: Occurrence) -> bool
+    // The comparison of two measures, member by member.
+    fn outweighs(self, other: Occurrence) -> bool
         requires size { atom_symbols self.atom.now ≤ 4294967295 }
         requires other_size { atom_symbols other.atom.now ≤ 4294967295 }
         ensures { result ≡ is_greater_multiset (measure self.entry.part self.entry.atom.now) (measure other.entry.part other.entry.atom.now) }
     {
         self.settles_all(other)
             && (self.differs_at(other, self.atom) || self.differs_at(other, other.atom))
+    }
+
+    /// Whether the measure of this occurrence is greater than that of the other one (Dershowitz and Manna 1979). Two
+    /// predicate atoms are compared once.
+    pub(crate) fn is_greater(self, other: Occurrence) -> bool
+        requires size { atom_symbols self.atom.now ≤ 4294967295 }
+        requires other_size { atom_symbols other.atom.now ≤ 4294967295 }
+        ensures { result ≡ is_greater_multiset (measure self.entry.part self.entry.atom.now) (measure other.entry.part other.entry.atom.now) }
+    {
+        match (self.atom, other.atom) {
+            (Atom::Holds(predicate, args), Atom::Holds(second, others)) => {
+                let view = View::App(*predicate, args.as_slice());
+                let order = compare_views(view, View::App(*second, others.as_slice()));
+                prevails(order, copies(self.part) > copies(other.part))
+            }
+            _ => self.outweighs(other),
+        }
     }
 }

@@ -5,9 +5,10 @@ ghost use Rattle.spl_truth.specs.Orders.{times, contains_each};
 
 use spl_terms::Term;
 
+/// Whether the variable occurs in the term.
 #[cycle(searching)]
 #[tactic(auto, using(crate::proofs::WalkLemmas::variables_laws))]
-fn occurs_in_term(variable: u32, term: &Term) -> bool
+pub(crate) fn occurs_in_term(variable: u32, term: &Term) -> bool
     ensures { result ≡ list_any (λ w. variable == w) (term_variables term.now) }
 {
     match term {
