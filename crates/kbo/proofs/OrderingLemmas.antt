@@ -13,7 +13,6 @@ use Rattle.kbo.specs.Tallies.{counted, noted, on_left, on_right, IsEven, IsTally
 use Rattle.kbo.proofs.WalkLemmas.{few_in_lists}
 use Rattle.kbo.proofs.TallyLemmas.{even_tally, left_counted, right_counted, put_before}
 
-
 -- a tally after more was counted on the left and then on the right
 pub more_counted : (n : ℕ) (bs : List ℕ) (z : Bool) (l r : ℕ) (vs ws : List ℕ) (a b : ℕ) → IsTally n bs z l r vs ws a b → length bs ≡ n
     → (xs ys : List ℕ) (x y : ℕ) → length xs ≤ x → length ys ≤ y → b + y ≤ 4294967295

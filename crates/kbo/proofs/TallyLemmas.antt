@@ -127,14 +127,14 @@ module _ (n : ℕ) (bs : List ℕ) (beyond : Bool) (l r : ℕ) where
 -- what is even before is put before the rest
 pub put_before : (n : ℕ) (bs : List ℕ) (beyond : Bool) (l r : ℕ) (vs ws : List ℕ) (a b : ℕ) → IsTally n bs beyond l r vs ws a b → IsEven n bs beyond l r → (cs : List ℕ) (beyond' : Bool) (l' r' : ℕ) (xs ys : List ℕ) (x y : ℕ) → IsTally n cs beyond' l' r' xs ys x y → IsTally n cs beyond' l' r' (vs ++ xs) (ws ++ ys) (a + x) (b + y)
 put_before n bs beyond l r vs ws a b t e cs beyond' l' r' xs ys x y u = record {
-    each = λ v h. omega (arith, u.each v h, even_times n bs beyond l r vs ws a b t e v, times-append v vs xs, times-append v ws ys);
-    others = λ p v h. omega (arith, u.others p v h, even_times n bs beyond l r vs ws a b t e v, times-append v vs xs, times-append v ws ys);
-    weights = omega (arith, u.weights, even_weights n bs beyond l r vs ws a b t e);
-    left_within = omega (arith, u.left_within);
-    right_within = omega (arith, u.right_within);
-    few_left = omega (arith, t.few_left, u.few_left, length-append vs xs);
-    few_right = omega (arith, t.few_right, u.few_right, length-append ws ys);
-  }
+  each = λ v h. omega (arith, u.each v h, even_times n bs beyond l r vs ws a b t e v, times-append v vs xs, times-append v ws ys);
+  others = λ p v h. omega (arith, u.others p v h, even_times n bs beyond l r vs ws a b t e v, times-append v vs xs, times-append v ws ys);
+  weights = omega (arith, u.weights, even_weights n bs beyond l r vs ws a b t e);
+  left_within = omega (arith, u.left_within);
+  right_within = omega (arith, u.right_within);
+  few_left = omega (arith, t.few_left, u.few_left, length-append vs xs);
+  few_right = omega (arith, t.few_right, u.few_right, length-append ws ys);
+}
 
 -- ---- what a tally tells
 

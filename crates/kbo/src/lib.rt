@@ -9,6 +9,8 @@ mod ordering;
 mod places;
 mod side;
 mod tally;
+#[cfg(test)]
+mod tests;
 mod view;
 mod walking;
 

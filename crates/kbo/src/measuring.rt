@@ -139,8 +139,7 @@ impl<'a> Occurrence<'a> {
                 self.tells_apart(other, View::App(*predicate, args.as_slice()))
             }
             Atom::Equal(left, right) => {
-                self.tells_apart(other, View::of(left))
-                    || self.tells_apart(other, View::of(right))
+                self.tells_apart(other, View::of(left)) || self.tells_apart(other, View::of(right))
             }
         }
     }

@@ -37,13 +37,7 @@ fn times_in_term(variable: u32, term: &Term) -> u64
     ensures { result ≡ min (times variable (term_variables term.now)) 18446744073709551615 }
 {
     match term {
-        Term::Var(other) => {
-            if variable == *other {
-                1
-            } else {
-                0
-            }
-        }
+        Term::Var(other) => { if variable == *other { 1 } else { 0 } }
         Term::App(_, args) => times_in(variable, args.as_slice()),
     }
 }
