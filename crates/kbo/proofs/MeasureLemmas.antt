@@ -1,17 +1,16 @@
 -- Measures of predicate atoms, which have one member.
-use Rattle.std.proofs.Common.{◌≡◌, ℕ, Bool, true, false, not, ◌&&◌, ◌||◌, ◌==◌, nat_lt, if◌then◌else◌, List, [], ◌∷◌, ◌++◌, filter, count_by, refl, sym, ap, ◌∙◌}
-use Rattle.std.specs.List.{list_any, list_all}
+use Rattle.std.proofs.Common.{◌≡◌, Bool, true, false, ◌&&◌, ◌||◌, nat_lt, if◌then◌else◌, List, [], ◌∷◌, refl, sym, ap, ◌∙◌}
 use Rattle.spl_terms.specs.declared.term.Symbol.{Symbol}
 use Rattle.spl_terms.specs.declared.term.Term.{Term, App}
 use Rattle.spl_terms.specs.declared.atom.Atom.{Atom}
-use Rattle.spl_terms.specs.declared.atom.Atom.TheVariants.{Holds, Equal}
+use Rattle.spl_terms.specs.declared.atom.Atom.TheVariants.{Holds}
 use Rattle.spl_terms.specs.declared.clause.Part.{Part}
 use Rattle.spl_terms.specs.declared.clause.Part.TheVariants.{Constraint, Antecedent, Succedent}
 use Rattle.spl_terms.specs.Terms.{term_eq}
 use Rattle.spl_terms.proofs.TermLemmas.{term_eq-refl}
 use Rattle.spl_truth.specs.Orders.{is_greater}
-use Rattle.spl_truth.specs.Multisets.{multiplicity, minus, differ, is_greater_multiset}
-use Rattle.spl_truth.specs.Places.{members, measure}
+use Rattle.spl_truth.specs.Multisets.{is_greater_multiset}
+use Rattle.spl_truth.specs.Places.{measure}
 use Rattle.spl_truth.proofs.OrderLemmas.{term_eq-sym}
 use Rattle.kbo.specs.declared.order.Order.{Order}
 use Rattle.kbo.specs.declared.order.Order.TheVariants as order

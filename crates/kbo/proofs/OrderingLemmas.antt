@@ -1,17 +1,16 @@
 -- Tallies while two terms are walked side by side.
-use Rattle.std.proofs.Common.{◌≡◌, ℕ, ◌+◌, ◌-◌, ◌≤◌, ◌<◌, Bool, List, [], ◌∷◌, ◌++◌, length, get_or, take, drop, fold, map, sum, refl, sym, ap, subst, ◌∙◌, arith, zero-add}
+use Rattle.std.proofs.Common.{◌≡◌, ℕ, ◌+◌, ◌-◌, ◌≤◌, ◌<◌, Bool, List, [], ◌∷◌, ◌++◌, length, get_or, take, drop, fold, map, sum, sym, ap, subst, ◌∙◌, arith, zero-add}
 use Rattle.std.specs.List.{flat_map}
 use Rattle.std.proofs.Math.Seq.{take-length}
 use Rattle.std.proofs.lemmas.List.Sums.{sum_by-cons}
 use Rattle.spl_terms.specs.declared.term.Symbol.{Symbol}
-use Rattle.spl_terms.specs.declared.term.Term.{Term, Var, App}
+use Rattle.spl_terms.specs.declared.term.Term.{Term, App}
 use Rattle.spl_terms.specs.Terms.{term_symbols, term_variables}
 use Rattle.spl_terms.proofs.TermLemmas.{term_symbols-App}
-use Rattle.spl_terms.proofs.NumberLemmas.{term_variables-App, few_in_term}
+use Rattle.spl_terms.proofs.NumberLemmas.{term_variables-App}
 use Rattle.kbo.specs.declared.side.Side.TheVariants.{Left, Right}
 use Rattle.kbo.specs.Tallies.{counted, noted, on_left, on_right, IsEven, IsTally, TalliesTerms, TalliesLists}
-use Rattle.kbo.proofs.WalkLemmas.{few_in_lists}
-use Rattle.kbo.proofs.TallyLemmas.{even_tally, left_counted, right_counted, put_before}
+use Rattle.kbo.proofs.TallyLemmas.{even_tally, left_counted, right_counted}
 
 -- a tally after more was counted on the left and then on the right
 pub more_counted : (n : ℕ) (bs : List ℕ) (z : Bool) (l r : ℕ) (vs ws : List ℕ) (a b : ℕ) → IsTally n bs z l r vs ws a b → length bs ≡ n

@@ -1,7 +1,6 @@
 -- What counting does to a tally.
-use Rattle.std.proofs.Common.{◌≡◌, ℕ, suc, ◌+◌, ◌-◌, ◌≤◌, ◌<◌, Bool, true, false, ◌||◌, ◌==◌, nat_lt, nat_le, if◌then◌else◌, List, [], ◌∷◌, ◌++◌, length, get_or, set, fold, map, sum, sum_by, arith, refl, sym, ap, ◌∙◌, eq-eqb, get_or-set_same, get_or-set_other, length-append}
-use Rattle.std.specs.List.{flat_map}
-use Rattle.std.proofs.lemmas.Bool.{eqb-true, ltb-true, ltb-false, leb-true, leb-false, lt-ltb, le-ltb, false≢true}
+use Rattle.std.proofs.Common.{◌≡◌, ℕ, suc, ◌+◌, ◌-◌, ◌≤◌, ◌<◌, Bool, true, false, ◌||◌, ◌==◌, nat_lt, nat_le, if◌then◌else◌, List, [], ◌∷◌, ◌++◌, length, get_or, fold, sum_by, arith, refl, sym, ap, ◌∙◌, eq-eqb, get_or-set_same, get_or-set_other, length-append}
+use Rattle.std.proofs.lemmas.Bool.{eqb-true, ltb-true, ltb-false, leb-false, lt-ltb, le-ltb, false≢true}
 use Rattle.std.proofs.lemmas.List.{length-set}
 use Rattle.std.proofs.lemmas.List.Sums.{sum_by-cons, get_or-le-sum_by}
 use Rattle.std.proofs.lemmas.Grind.{fold-append}
@@ -11,9 +10,9 @@ use Rattle.kbo.specs.declared.side.Side.{Side}
 use Rattle.kbo.specs.declared.side.Side.TheVariants.{Left, Right}
 use Rattle.spl_truth.specs.Orders.{times, contains_each}
 use Rattle.kbo.specs.declared.order.Order.{Order}
-use Rattle.kbo.specs.declared.order.Order.TheVariants.{Greater, Less, Equal, Incomparable}
+use Rattle.kbo.specs.declared.order.Order.TheVariants.{Greater, Less, Incomparable}
 use Rattle.kbo.specs.Comparisons.{decided, judged}
-use Rattle.kbo.specs.Tallies.{above, below, raised, lowered, counted, noted, on_left, on_right, IsEven, IsTally}
+use Rattle.kbo.specs.Tallies.{above, below, raised, lowered, noted, on_left, on_right, IsEven, IsTally}
 use Rattle.kbo.proofs.TimesLemmas.{times-append, times-cons, times-within, contains_at, contains_all, same_test}
 
 pub on_left-sum : (s : Side) (a b : ℕ) → on_left s (a + b) ≡ on_left s a + on_left s b

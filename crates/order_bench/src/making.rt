@@ -42,12 +42,7 @@ fn join(alloc: Global, pile: &mut Vec<Term>, number: u32, count: usize) -> Resul
 
 /// A term of so many symbols, by a seed. Its rightmost leaf is the constant of this number; all else depends on the seed
 /// and the size alone. The only error is want of memory.
-pub fn made_term(
-    alloc: Global,
-    seed: u64,
-    symbols: usize,
-    last: u32,
-) -> Result<Term, AllocError> {
+pub fn made_term(alloc: Global, seed: u64, symbols: usize, last: u32) -> Result<Term, AllocError> {
     let mut pile = Vec::new(alloc);
     let mut state = next(seed);
     for done in 0..symbols {

@@ -1,7 +1,6 @@
 -- The equations of the order, and that it is asymmetric.
-use Rattle.std.proofs.Common.{◌≡◌, ◌⊎◌, inl, inr, ℕ, suc, ◌+◌, ◌≤◌, ◌<◌, Bool, true, false, ◌&&◌, ◌||◌, ◌==◌, nat_lt, nat_le, if◌then◌else◌, List, [], ◌∷◌, ◌++◌, length, map, sum, sum_by, count_by, refl, sym, ap, ◌∙◌, arith}
-use Rattle.std.specs.List.{list_all, list_any, flat_map}
-use Rattle.std.proofs.Common.{zero-add, eq-eqb}
+use Rattle.std.proofs.Common.{◌≡◌, ◌⊎◌, inl, inr, ℕ, suc, ◌<◌, Bool, true, false, ◌&&◌, ◌||◌, ◌==◌, nat_lt, if◌then◌else◌, List, [], ◌∷◌, length, map, refl, sym, ap, ◌∙◌, arith}
+use Rattle.std.proofs.Common.{eq-eqb}
 use Rattle.std.proofs.lemmas.Bool.{eqb-true, ltb-true, ltb-false, lt-ltb, le-ltb, false≢true}
 use Rattle.spl_terms.specs.declared.term.Kind.{Kind}
 use Rattle.spl_terms.specs.declared.term.Kind.TheVariants.{Function, Predicate, Sort}
@@ -9,9 +8,9 @@ use Rattle.spl_terms.specs.declared.term.Symbol.{Symbol}
 use Rattle.spl_terms.specs.declared.term.Term.{Term, Var, App, out-Term, para-roll-Term}
 use Rattle.spl_terms.specs.declared.term.Term.TheOpen as layer
 use Rattle.spl_terms.specs.declared.term.Term.TheViews.{outs-Var, outs-App, rolls-Var, rolls-App}
-use Rattle.spl_terms.specs.Terms.{term_symbols, term_variables, term_eq, symbol_eq, kind_eq}
-use Rattle.spl_terms.proofs.TermLemmas.{Each, term_induction, and-parts, term_eq-true, term_eq-refl, symbol_eq-true, symbol_eq-refl}
-use Rattle.spl_truth.specs.Orders.{kind_rank, is_greater_symbol, is_greater_head, covers, first_differing, is_greater_at, by_weight, greater_step, is_greater}
+use Rattle.spl_terms.specs.Terms.{term_symbols, term_eq, symbol_eq, kind_eq}
+use Rattle.spl_terms.proofs.TermLemmas.{Each, term_induction, and-parts, term_eq-true, term_eq-refl}
+use Rattle.spl_truth.specs.Orders.{kind_rank, is_greater_head, covers, first_differing, is_greater_at, by_weight, greater_step, is_greater}
 
 -- ---- the equations
 

@@ -1,6 +1,6 @@
 -- The order on terms of Knuth and Bendix (1970), with weight 1 for each symbol and each variable (Weidenbach 2001, the
 -- section on orderings). The precedence is this project's own.
-use Rattle.std.specs.Prelude.{ℕ, Bool, true, false, ◌&&◌, ◌||◌, ◌==◌, nat_lt, nat_le, if◌then◌else◌, List, [], ◌∷◌, length, map, count_by}
+use Rattle.std.specs.Prelude.{ℕ, Bool, false, ◌&&◌, ◌||◌, ◌==◌, nat_lt, nat_le, if◌then◌else◌, List, [], ◌∷◌, length, map, count_by}
 use Rattle.std.specs.List.{list_all}
 use Rattle.spl_terms.specs.declared.term.Kind.{Kind}
 use Rattle.spl_terms.specs.declared.term.Kind.TheVariants.{Function, Predicate, Sort}

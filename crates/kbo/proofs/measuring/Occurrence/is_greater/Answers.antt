@@ -1,4 +1,4 @@
-use Rattle.std.proofs.Common.{ap, ◌∙◌, nat_lt}
+use Rattle.std.proofs.Common.{◌∙◌, nat_lt}
 use Rattle.kbo.specs.Measures.{prevails}
 use Rattle.kbo.proofs.MeasureLemmas.{predicates_prevail}
 use Rattle.kbo.proofs.measuring.Occurrence.is_greater.Goals as goal

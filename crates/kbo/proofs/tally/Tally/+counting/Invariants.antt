@@ -1,4 +1,4 @@
-use Rattle.std.proofs.Common.{◌≡◌, ◌+◌, ◌≤◌, fold, sum, map, drop}
+use Rattle.std.proofs.Common.{◌≡◌, ◌+◌, fold, sum, map, drop}
 use Rattle.std.specs.List.{flat_map}
 use Rattle.spl_terms.specs.Terms.{term_symbols, term_variables}
 use Rattle.kbo.specs.Tallies.{counted, noted, on_left, on_right}

@@ -1,5 +1,4 @@
 use Rattle.std.proofs.Common.{◌-◌, length, take, drop, arith}
-use Rattle.spl_terms.proofs.NumberLemmas.{few_in_term}
 use Rattle.kbo.proofs.WalkLemmas.{few_in_lists}
 use Rattle.kbo.proofs.CompareLemmas.{is_compared, is_equal_below, variable_compared, compared_with_variable, variables_compared, first_decides_lists}
 use Rattle.kbo.proofs.TallyLemmas.{put_before}
