@@ -234,15 +234,15 @@ pub same_variables : (v w : ℕ) → v ≡ w → Equal ≡ compare (Var v) (Var 
 same_variables v w e = sym (compare_variables v w ∙ ap (λ b. if b then Equal else Incomparable) (eq-eqb v w e))
 
 -- what the code finds at an application
-module _ (f : Symbol) (ss : List Term) (g : Symbol) (ts : List Term) (heads below found : Order) (judgement : found ≡ judged (contains_each (flat_map term_variables ss) (flat_map term_variables ts)) (contains_each (flat_map term_variables ts) (flat_map term_variables ss)) (sum (map term_symbols ss)) (sum (map term_symbols ts)) below) where
-  pub is_compared : heads ≡ compare_heads f (length ss) g (length ts) → below ≡ then_by heads (compare_lists ss ts) → found ≡ compare (App f ss) (App g ts)
-  is_compared h e =
+module _ (f : Symbol) (ss : List Term) (g : Symbol) (ts : List Term) (c d : Bool) (heads below found : Order) (judgement : found ≡ judged c d (sum (map term_symbols ss)) (sum (map term_symbols ts)) below) where
+  pub is_compared : c ≡ contains_each (flat_map term_variables ss) (flat_map term_variables ts) → d ≡ contains_each (flat_map term_variables ts) (flat_map term_variables ss) → heads ≡ compare_heads f (length ss) g (length ts) → below ≡ then_by heads (compare_lists ss ts) → found ≡ compare (App f ss) (App g ts)
+  is_compared p q h e =
       judgement
-      ∙ ap (judged (contains_each (flat_map term_variables ss) (flat_map term_variables ts)) (contains_each (flat_map term_variables ts) (flat_map term_variables ss)) (sum (map term_symbols ss)) (sum (map term_symbols ts))) (e ∙ ap (λ o. then_by o (compare_lists ss ts)) h)
+      ∙ (λ i. judged (p i) (q i) (sum (map term_symbols ss)) (sum (map term_symbols ts)) ((e ∙ ap (λ o. then_by o (compare_lists ss ts)) h) i))
       ∙ sym (compare_by_lists f ss g ts)
 
   pub is_equal_below : found ≡ Equal → below ≡ Equal
-  is_equal_below e = judged_equal (contains_each (flat_map term_variables ss) (flat_map term_variables ts)) (contains_each (flat_map term_variables ts) (flat_map term_variables ss)) (sum (map term_symbols ss)) (sum (map term_symbols ts)) below (sym judgement ∙ e)
+  is_equal_below e = judged_equal c d (sum (map term_symbols ss)) (sum (map term_symbols ts)) below (sym judgement ∙ e)
 
 -- what the code finds at a variable
 module _ (v : ℕ) (f : Symbol) (ts l : List Term) (s t : Term) (found : Order) (lent : l ≡ ts) where

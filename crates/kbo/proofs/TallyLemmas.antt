@@ -1,5 +1,5 @@
 -- What counting does to a tally.
-use Rattle.std.proofs.Common.{◌≡◌, ℕ, suc, ◌+◌, ◌-◌, ◌≤◌, ◌<◌, Bool, true, false, ◌||◌, ◌==◌, nat_lt, nat_le, if◌then◌else◌, List, [], ◌∷◌, ◌++◌, length, get_or, fold, sum_by, arith, refl, sym, ap, ◌∙◌, eq-eqb, get_or-set_same, get_or-set_other, length-append}
+use Rattle.std.proofs.Common.{◌≡◌, ℕ, suc, ◌+◌, ◌-◌, ◌≤◌, ◌<◌, Bool, true, false, ◌&&◌, ◌||◌, ◌==◌, nat_lt, nat_le, if◌then◌else◌, List, [], ◌∷◌, ◌++◌, length, get_or, fold, sum_by, arith, refl, sym, ap, ◌∙◌, eq-eqb, get_or-set_same, get_or-set_other, length-append}
 use Rattle.std.proofs.lemmas.Bool.{eqb-true, ltb-true, ltb-false, leb-false, lt-ltb, le-ltb, false≢true}
 use Rattle.std.proofs.lemmas.List.{length-set}
 use Rattle.std.proofs.lemmas.List.Sums.{sum_by-cons, get_or-le-sum_by}
@@ -12,7 +12,7 @@ use Rattle.spl_truth.specs.Orders.{times, contains_each}
 use Rattle.kbo.specs.declared.order.Order.{Order}
 use Rattle.kbo.specs.declared.order.Order.TheVariants.{Greater, Less, Incomparable}
 use Rattle.kbo.specs.Comparisons.{decided, judged}
-use Rattle.kbo.specs.Tallies.{above, below, raised, lowered, noted, on_left, on_right, IsEven, IsTally}
+use Rattle.kbo.specs.Tallies.{above, below, raised, lowered, noted, on_left, on_right, is_blind, told, IsEven, IsTally}
 use Rattle.kbo.proofs.TimesLemmas.{times-append, times-cons, times-within, contains_at, contains_all, same_test}
 
 pub on_left-sum : (s : Side) (a b : ℕ) → on_left s (a + b) ≡ on_left s a + on_left s b
@@ -194,3 +194,25 @@ module _ (l r m n : ℕ) (weights : l + n ≡ r + m) (c d : Bool) (o : Order) wh
   as_heavy h = by_weights c d m n o false false (le-ltb n m (omega arith)) (le-ltb m n (omega arith))
 
 pub ruleset judging_laws = (left_heavier, right_heavier, as_heavy)
+
+-- ---- tallies that aren't blind
+
+pub never_blind : (beyond : Bool) → is_blind beyond true ≡ false
+never_blind true = refl
+never_blind false = refl
+
+pub told_known : (beyond walks walked : Bool) (missing : ℕ) → is_blind beyond walks ≡ false → (beyond ≡ false → (missing == 0) ≡ walked) → told beyond walks missing walked ≡ walked
+told_known true true walked missing known counted_all = refl
+told_known true false walked missing known counted_all = absurd (cc)
+told_known false true walked missing known counted_all = counted_all refl
+told_known false false walked missing known counted_all = counted_all refl
+
+-- what isn't blind after more was counted wasn't before
+pub known_before : (n : ℕ) (walks : Bool) (x y z : Bool) (xs ys : List ℕ) → y ≡ fold (noted n) x xs → z ≡ fold (noted n) y ys → is_blind z walks ≡ false → is_blind x walks ≡ false
+known_before n true x y z xs ys e h known = never_blind x
+known_before n false x y z xs ys e h known =
+    ap (λ b. b && true) (noted-all n xs x (sym e ∙ (noted-all n ys y (sym h ∙ and_true z known)).0)).0
+  where
+    and_true : (b : Bool) → (b && true) ≡ false → b ≡ false
+    and_true true p = p
+    and_true false p = refl

@@ -1,6 +1,6 @@
 -- A tally of the variables on two sides. A balance stands for how many more occurrences a variable has on the left than
 -- on the right, above 4,294,967,296.
-use Rattle.std.specs.Prelude.{◌≡◌, ℕ, ◌+◌, ◌-◌, ◌<◌, ◌≤◌, Bool, false, ◌||◌, nat_le, List, length, slice_set, slice_index, sum, map}
+use Rattle.std.specs.Prelude.{◌≡◌, ℕ, ◌+◌, ◌-◌, ◌<◌, ◌≤◌, Bool, false, not, ◌&&◌, ◌||◌, ◌==◌, nat_le, if◌then◌else◌, List, length, slice_set, slice_index, sum, map}
 use Rattle.std.specs.List.{flat_map}
 use Rattle.spl_terms.specs.declared.term.Term.{Term}
 use Rattle.spl_terms.specs.Terms.{term_symbols, term_variables}
@@ -36,6 +36,14 @@ on_left Right n = 0
 abbrev pub on_right : Side → ℕ → ℕ
 on_right Left n = 0
 on_right Right n = n
+
+-- a variable was met that is neither counted nor looked for
+abbrev pub is_blind : Bool → Bool → Bool
+is_blind beyond walks = beyond && not walks
+
+-- what a tally tells of a side: what a walk finds, where there is one to make, or that nothing is missing
+abbrev pub told : Bool → Bool → ℕ → Bool → Bool
+told beyond walks missing walked = if beyond && walks then walked else (missing == 0)
 
 -- a tally of nothing
 pub record IsEven (n : ℕ) (balances : List ℕ) (beyond : Bool) (left right : ℕ) : Type 0 where

@@ -1,30 +1,29 @@
-ghost use Rattle.std.specs.Prelude.{◌≡◌, ◌≤◌, sum, map};
+ghost use Rattle.std.specs.Prelude.{◌≡◌, ◌≤◌, sum, map, IfSome};
 ghost use Rattle.spl_terms.specs.Terms.{term_symbols, term_eq};
 ghost use Rattle.kbo.specs.Comparisons.{compare};
 ghost use Rattle.kbo.specs.Views.{term_of};
 
 use crate::order::Order;
 use crate::ordering::{compare_variable, compare_with_variable};
-use crate::tally::Tally;
+use crate::tally::{FEW, Tally};
 use crate::view::View;
-use crate::walking::all_below;
 use spl_terms::{Symbol, Term, all_equal};
-
-/// How many variables a small tally counts. It is made for each comparison.
-const FEW: usize = 64;
 
 /// How many variables a large tally counts: those of two clauses of 4,096 symbols, one renamed apart from the other.
 const MANY: usize = 8192;
 
-fn compare_few(symbol: Symbol, args: &[Term], head: Symbol, others: &[Term]) -> Order
+// None where a variable was met that a small tally doesn't count.
+fn compare_few(symbol: Symbol, args: &[Term], head: Symbol, others: &[Term]) -> Option<Order>
     requires args_size { sum (map term_symbols args.now) ≤ 4294967295 }
     requires others_size { sum (map term_symbols others.now) ≤ 4294967295 }
-    ensures { result ≡ compare (Term.App symbol args.now) (Term.App head others.now) }
+    ensures { IfSome result (λ order. order ≡ compare (Term.App symbol args.now) (Term.App head others.now)) }
 {
     let mut tally = Tally::<FEW>::new();
-    tally.order_applications(symbol, args, head, others)
+    let order = tally.order_applications(symbol, args, head, others);
+    if tally.is_blind() { None } else { Some(order) }
 }
 
+#[tactic(auto, using(crate::proofs::TallyLemmas::never_blind))]
 fn compare_many(symbol: Symbol, args: &[Term], head: Symbol, others: &[Term]) -> Order
     requires args_size { sum (map term_symbols args.now) ≤ 4294967295 }
     requires others_size { sum (map term_symbols others.now) ≤ 4294967295 }
@@ -34,16 +33,14 @@ fn compare_many(symbol: Symbol, args: &[Term], head: Symbol, others: &[Term]) ->
     tally.order_applications(symbol, args, head, others)
 }
 
-// The tally's size is a matter of speed alone: whatever it is, variables that it doesn't count are walked.
 fn compare_applications(symbol: Symbol, args: &[Term], head: Symbol, others: &[Term]) -> Order
     requires args_size { sum (map term_symbols args.now) ≤ 4294967295 }
     requires others_size { sum (map term_symbols others.now) ≤ 4294967295 }
     ensures { result ≡ compare (Term.App symbol args.now) (Term.App head others.now) }
 {
-    if all_below(args, FEW) && all_below(others, FEW) {
-        compare_few(symbol, args, head, others)
-    } else {
-        compare_many(symbol, args, head, others)
+    match compare_few(symbol, args, head, others) {
+        Some(order) => order,
+        None => compare_many(symbol, args, head, others),
     }
 }
 

@@ -1,8 +1,8 @@
-ghost use Rattle.std.specs.Prelude.{◌≡◌, ◌==◌, ◌≤◌, length, sum, map, if◌then◌else◌};
+ghost use Rattle.std.specs.Prelude.{◌≡◌, false, ◌==◌, ◌≤◌, length, sum, map, nat_lt, if◌then◌else◌};
 ghost use Rattle.std.specs.List.{list_any, flat_map};
 ghost use Rattle.spl_terms.specs.Terms.{term_symbols, term_variables};
 ghost use Rattle.kbo.specs.Comparisons.{compare, then_by, compare_lists};
-ghost use Rattle.kbo.specs.Tallies.{IsEven, TalliesTerms, TalliesLists};
+ghost use Rattle.kbo.specs.Tallies.{is_blind, IsEven, TalliesTerms, TalliesLists};
 
 use crate::heads::compare_heads;
 use crate::order::Order;
@@ -62,7 +62,7 @@ impl<const N: usize> Tally<N> {
         requires even { IsEven N self.old.balances self.old.beyond self.old.left self.old.right }
         requires term_size { term_symbols term.now ≤ 4294967295 }
         requires other_size { term_symbols other.now ≤ 4294967295 }
-        ensures order { result ≡ compare term.now other.now }
+        ensures order { is_blind self.new.beyond (nat_lt 64 N) ≡ false → result ≡ compare term.now other.now }
         ensures even { result ≡ Order.Equal → IsEven N self.new.balances self.new.beyond self.new.left self.new.right }
         ensures tally { TalliesTerms N self.new.balances self.new.beyond self.new.left self.new.right term.now other.now }
     {
@@ -88,7 +88,7 @@ impl<const N: usize> Tally<N> {
         }
     }
 
-    /// How two applications stand. The tally is even before, and then tells how their arguments differ.
+    /// How two applications stand, unless the tally is blind. It is even before, and then tells how their arguments differ.
     #[cycle(ordering)]
     pub(crate) fn order_applications(
         &mut self,
@@ -100,7 +100,7 @@ impl<const N: usize> Tally<N> {
         requires even { IsEven N self.old.balances self.old.beyond self.old.left self.old.right }
         requires args_size { sum (map term_symbols args.now) ≤ 4294967295 }
         requires others_size { sum (map term_symbols others.now) ≤ 4294967295 }
-        ensures order { result ≡ compare (Term.App symbol args.now) (Term.App head others.now) }
+        ensures order { is_blind self.new.beyond (nat_lt 64 N) ≡ false → result ≡ compare (Term.App symbol args.now) (Term.App head others.now) }
         ensures even { result ≡ Order.Equal → IsEven N self.new.balances self.new.beyond self.new.left self.new.right }
         ensures tally { TalliesLists N self.new.balances self.new.beyond self.new.left self.new.right args.now others.now }
     {
@@ -116,7 +116,7 @@ impl<const N: usize> Tally<N> {
         requires args_size { sum (map term_symbols args.now) ≤ 4294967295 }
         requires others_size { sum (map term_symbols others.now) ≤ 4294967295 }
         requires count { heads ≡ Order.Equal → length args.now ≡ length others.now }
-        ensures order { result ≡ then_by heads (compare_lists args.now others.now) }
+        ensures order { is_blind self.new.beyond (nat_lt 64 N) ≡ false → result ≡ then_by heads (compare_lists args.now others.now) }
         ensures even { result ≡ Order.Equal → IsEven N self.new.balances self.new.beyond self.new.left self.new.right }
         ensures tally { TalliesLists N self.new.balances self.new.beyond self.new.left self.new.right args.now others.now }
     {
@@ -136,7 +136,7 @@ impl<const N: usize> Tally<N> {
         requires terms_size { sum (map term_symbols terms.now) ≤ 4294967295 }
         requires others_size { sum (map term_symbols others.now) ≤ 4294967295 }
         requires count { length terms.now ≡ length others.now }
-        ensures order { result ≡ compare_lists terms.now others.now }
+        ensures order { is_blind self.new.beyond (nat_lt 64 N) ≡ false → result ≡ compare_lists terms.now others.now }
         ensures even { result ≡ Order.Equal → IsEven N self.new.balances self.new.beyond self.new.left self.new.right }
         ensures tally { TalliesLists N self.new.balances self.new.beyond self.new.left self.new.right terms.now others.now }
     {

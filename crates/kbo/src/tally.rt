@@ -1,9 +1,9 @@
-ghost use Rattle.std.specs.Prelude.{◌≡◌, ◌+◌, ◌<◌, ◌≤◌, fold, length, sum, map, sum_by, if◌then◌else◌};
+ghost use Rattle.std.specs.Prelude.{◌≡◌, ◌+◌, ◌<◌, ◌≤◌, fold, length, sum, map, sum_by, nat_lt, if◌then◌else◌};
 ghost use Rattle.std.specs.List.{flat_map};
 ghost use Rattle.spl_terms.specs.Terms.{term_symbols, term_variables};
 ghost use Rattle.spl_truth.specs.Orders.{contains_each};
 ghost use Rattle.kbo.specs.Comparisons.{judged};
-ghost use Rattle.kbo.specs.Tallies.{above, below, raised, lowered, counted, noted, on_left, on_right, IsEven, TalliesLists};
+ghost use Rattle.kbo.specs.Tallies.{above, below, raised, lowered, counted, noted, on_left, on_right, is_blind, told, IsEven, TalliesLists};
 
 use crate::order::Order;
 use crate::side::Side;
@@ -13,7 +13,12 @@ use spl_terms::Term;
 /// The balance of a variable that occurs as often on the left as on the right.
 const EVEN: u64 = 4_294_967_296;
 
-/// How the variables and symbols of two terms differ. Variables from `N` on are not counted, but noted.
+/// How many variables a small tally counts. It is made for each comparison.
+pub(crate) const FEW: usize = 64;
+
+/// How the variables and symbols of two terms differ. Variables from `N` on are not counted, but noted. A tally for more
+/// than `FEW` walks through the terms again where it met one of these; a smaller one is blind from then on, and what it
+/// tells is of no use.
 #[derive(Debug, Drop)]
 pub(crate) struct Tally<const N: usize> {
     balances: [u64; N],
@@ -152,28 +157,33 @@ impl<const N: usize> Tally<N> {
         }
     }
 
-    /// Whether no variable occurs more often in the others than in the terms.
+    /// Whether a variable was met that the tally neither counts nor looks for.
+    pub(crate) fn is_blind(&self) -> bool
+        ensures { result ≡ is_blind self.now.beyond (nat_lt 64 N) }
+    {
+        self.beyond && N <= FEW
+    }
+
+    // Whether no variable occurs more often in the others than in the terms, as far as the tally knows.
     fn left_contains(&self, terms: &[Term], others: &[Term]) -> bool
-        requires tally { TalliesLists N self.now.balances self.now.beyond self.now.left self.now.right terms.now others.now }
         requires terms_size { sum (map term_symbols terms.now) ≤ 4294967295 }
         requires others_size { sum (map term_symbols others.now) ≤ 4294967295 }
-        ensures { result ≡ contains_each (flat_map term_variables terms.now) (flat_map term_variables others.now) }
+        ensures { result ≡ told self.now.beyond (nat_lt 64 N) self.now.deficit (contains_each (flat_map term_variables terms.now) (flat_map term_variables others.now)) }
     {
-        if self.beyond {
+        if self.beyond && N > FEW {
             contains_each(terms, others)
         } else {
             self.deficit == 0
         }
     }
 
-    /// Whether no variable occurs more often in the terms than in the others.
+    // Whether no variable occurs more often in the terms than in the others, as far as the tally knows.
     fn right_contains(&self, terms: &[Term], others: &[Term]) -> bool
-        requires tally { TalliesLists N self.now.balances self.now.beyond self.now.left self.now.right terms.now others.now }
         requires terms_size { sum (map term_symbols terms.now) ≤ 4294967295 }
         requires others_size { sum (map term_symbols others.now) ≤ 4294967295 }
-        ensures { result ≡ contains_each (flat_map term_variables others.now) (flat_map term_variables terms.now) }
+        ensures { result ≡ told self.now.beyond (nat_lt 64 N) self.now.surplus (contains_each (flat_map term_variables others.now) (flat_map term_variables terms.now)) }
     {
-        if self.beyond {
+        if self.beyond && N > FEW {
             contains_each(others, terms)
         } else {
             self.surplus == 0
@@ -181,10 +191,9 @@ impl<const N: usize> Tally<N> {
     }
 
     fn if_left_contains(&self, terms: &[Term], others: &[Term]) -> Order
-        requires tally { TalliesLists N self.now.balances self.now.beyond self.now.left self.now.right terms.now others.now }
         requires terms_size { sum (map term_symbols terms.now) ≤ 4294967295 }
         requires others_size { sum (map term_symbols others.now) ≤ 4294967295 }
-        ensures { result ≡ (if contains_each (flat_map term_variables terms.now) (flat_map term_variables others.now) then Order.Greater else Order.Incomparable) }
+        ensures { result ≡ (if told self.now.beyond (nat_lt 64 N) self.now.deficit (contains_each (flat_map term_variables terms.now) (flat_map term_variables others.now)) then Order.Greater else Order.Incomparable) }
     {
         if self.left_contains(terms, others) {
             Order::Greater
@@ -194,10 +203,9 @@ impl<const N: usize> Tally<N> {
     }
 
     fn if_right_contains(&self, terms: &[Term], others: &[Term]) -> Order
-        requires tally { TalliesLists N self.now.balances self.now.beyond self.now.left self.now.right terms.now others.now }
         requires terms_size { sum (map term_symbols terms.now) ≤ 4294967295 }
         requires others_size { sum (map term_symbols others.now) ≤ 4294967295 }
-        ensures { result ≡ (if contains_each (flat_map term_variables others.now) (flat_map term_variables terms.now) then Order.Less else Order.Incomparable) }
+        ensures { result ≡ (if told self.now.beyond (nat_lt 64 N) self.now.surplus (contains_each (flat_map term_variables others.now) (flat_map term_variables terms.now)) then Order.Less else Order.Incomparable) }
     {
         if self.right_contains(terms, others) {
             Order::Less
@@ -213,7 +221,7 @@ impl<const N: usize> Tally<N> {
         requires tally { TalliesLists N self.now.balances self.now.beyond self.now.left self.now.right terms.now others.now }
         requires terms_size { sum (map term_symbols terms.now) ≤ 4294967295 }
         requires others_size { sum (map term_symbols others.now) ≤ 4294967295 }
-        ensures { result ≡ judged (contains_each (flat_map term_variables terms.now) (flat_map term_variables others.now)) (contains_each (flat_map term_variables others.now) (flat_map term_variables terms.now)) (sum (map term_symbols terms.now)) (sum (map term_symbols others.now)) lower }
+        ensures { result ≡ judged (told self.now.beyond (nat_lt 64 N) self.now.deficit (contains_each (flat_map term_variables terms.now) (flat_map term_variables others.now))) (told self.now.beyond (nat_lt 64 N) self.now.surplus (contains_each (flat_map term_variables others.now) (flat_map term_variables terms.now))) (sum (map term_symbols terms.now)) (sum (map term_symbols others.now)) lower }
     {
         if self.left > self.right {
             return self.if_left_contains(terms, others);

@@ -1,4 +1,4 @@
-ghost use Rattle.std.specs.Prelude.{◌≡◌, ◌==◌, ◌≤◌, min, sum, map, nat_le, nat_lt};
+ghost use Rattle.std.specs.Prelude.{◌≡◌, ◌==◌, ◌≤◌, min, sum, map, nat_le};
 ghost use Rattle.std.specs.List.{list_any, list_all, flat_map};
 ghost use Rattle.spl_terms.specs.Terms.{term_symbols, term_variables};
 ghost use Rattle.spl_truth.specs.Orders.{times, contains_each};
@@ -98,29 +98,4 @@ pub(crate) fn contains_each(terms: &[Term], others: &[Term]) -> bool
     ensures { result ≡ contains_each (flat_map term_variables terms.now) (flat_map term_variables others.now) }
 {
     covers_parts(others, terms, others)
-}
-
-#[cycle(bounding)]
-#[tactic(auto, using(crate::proofs::WalkLemmas::variables_laws))]
-fn is_below(term: &Term, bound: usize) -> bool
-    ensures { result ≡ list_all (λ v. nat_lt v bound) (term_variables term.now) }
-{
-    match term {
-        Term::Var(variable) => (*variable as usize) < bound,
-        Term::App(_, args) => all_below(args.as_slice(), bound),
-    }
-}
-
-/// Whether each variable of the terms is below the bound.
-#[cycle(bounding)]
-#[tactic(auto, using(crate::proofs::WalkLemmas::variables_laws))]
-pub(crate) fn all_below(terms: &[Term], bound: usize) -> bool
-    ensures { result ≡ list_all (λ v. nat_lt v bound) (flat_map term_variables terms.now) }
-{
-    for term in terms {
-        if !is_below(term, bound) {
-            return false;
-        }
-    }
-    true
 }
