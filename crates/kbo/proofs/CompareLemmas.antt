@@ -230,9 +230,6 @@ other_variables v w differ = sym (compare_variables v w ∙ by_test (v == w) ref
     by_test true e = absurd (differ (eqb-true v w e))
     by_test false e = refl
 
-pub same_variables : (v w : ℕ) → v ≡ w → Equal ≡ compare (Var v) (Var w)
-same_variables v w e = sym (compare_variables v w ∙ ap (λ b. if b then Equal else Incomparable) (eq-eqb v w e))
-
 -- what the code finds at an application
 module _ (f : Symbol) (ss : List Term) (g : Symbol) (ts : List Term) (c d : Bool) (heads below found : Order) (judgement : found ≡ judged c d (sum (map term_symbols ss)) (sum (map term_symbols ts)) below) where
   pub is_compared : c ≡ contains_each (flat_map term_variables ss) (flat_map term_variables ts) → d ≡ contains_each (flat_map term_variables ts) (flat_map term_variables ss) → heads ≡ compare_heads f (length ss) g (length ts) → below ≡ then_by heads (compare_lists ss ts) → found ≡ compare (App f ss) (App g ts)

@@ -1,5 +1,5 @@
 -- The variables of terms, as walks meet them.
-use Rattle.std.proofs.Common.{◌≡◌, ℕ, ◌≤◌, min, Bool, true, false, ◌==◌, nat_le, if◌then◌else◌, List, [], ◌∷◌, ◌++◌, length, map, sum, refl, ap, ◌∙◌, arith, eq-eqb, zero-add, length-append}
+use Rattle.std.proofs.Common.{◌≡◌, ℕ, ◌≤◌, min, Bool, true, false, ◌==◌, nat_le, if◌then◌else◌, List, [], ◌∷◌, length, map, sum, refl, ap, ◌∙◌, arith, eq-eqb, zero-add, length-append}
 use Rattle.std.proofs.lemmas.List.Sums.{sum_by-cons}
 use Rattle.std.specs.List.{flat_map}
 use Rattle.std.proofs.lemmas.Bool.{eqb-true}
@@ -9,9 +9,6 @@ use Rattle.spl_terms.specs.Terms.{term_symbols, term_variables}
 use Rattle.spl_terms.proofs.NumberLemmas.{term_variables-Var, term_variables-App, few_in_term}
 use Rattle.spl_truth.specs.Orders.{times}
 use Rattle.kbo.proofs.TimesLemmas.{times-append, times-cons, times-within}
-
-pub variables_more : (t : Term) (ts : List Term) → flat_map term_variables (t ∷ ts) ≡ term_variables t ++ flat_map term_variables ts
-variables_more t ts = refl
 
 pub ruleset variables_laws = (term_variables-Var, term_variables-App, list_all-append, list_any-append)
 

@@ -37,7 +37,7 @@ order_lists-returns-in_default g t c =
     let h = opened ts c.other-item.result (omega arith) c.other-item.is in
     record {
       order = λ known. first_decides_lists ss ts c.first-item.result c.other-item.result rest more _ e h (c.order_terms.ensures.order (known_before g.row.N (nat_lt 64 g.row.N) _ _ _ (flat_map term_variables rest) (flat_map term_variables more) c.count_all.ensures.beyond c.count_all-in_default.ensures.beyond known)) c.in_default.not-Equal;
-      even = λ k. absurd (c.in_default.not-Equal k);
+      even = λ k. elim (c.in_default.not-Equal k) [ ];
       tally =
           tally_lists g.row.N _ _ _ _ ss ts c.first-item.result c.other-item.result rest more e h
           (more_counted g.row.N _ _ _ _ _ _ _ _ c.order_terms.ensures.tally c.order_terms.new.self.size_is _ _ _ _
