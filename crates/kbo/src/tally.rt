@@ -21,11 +21,15 @@ pub(crate) const FEW: usize = 64;
 /// tells is of no use.
 #[derive(Debug, Drop)]
 pub(crate) struct Tally<const N: usize> {
+    // How much more often a variable occurred on the left than on the right, above `EVEN`.
     balances: [u64; N],
+    // How many occurrences on the left, and on the right, have no partner on the other side.
     surplus: u64,
     deficit: u64,
+    // How many symbols there were on the left, and on the right.
     left: u64,
     right: u64,
+    // Whether a variable was met that has no balance.
     beyond: bool,
     ghost size_is: { length balances ≡ N },
     ghost surplus_is: { surplus ≡ sum_by above balances },
@@ -49,6 +53,7 @@ impl<const N: usize> Tally<N> {
         }
     }
 
+    // Counts a variable on the left.
     fn raise(&mut self, variable: u32)
         requires { self.old.left < 4294967295 }
         ensures balances { self.new.balances ≡ raised self.old.balances variable }
@@ -71,6 +76,7 @@ impl<const N: usize> Tally<N> {
         self.balances[place] = balance + 1;
     }
 
+    // Counts a variable on the right.
     fn lower(&mut self, variable: u32)
         requires { self.old.right < 4294967295 }
         ensures balances { self.new.balances ≡ lowered self.old.balances variable }
@@ -107,6 +113,7 @@ impl<const N: usize> Tally<N> {
         }
     }
 
+    // Counts a symbol that is no variable.
     fn count_symbol(&mut self, side: Side)
         requires left_room { self.old.left + on_left side 1 ≤ 4294967295 }
         requires right_room { self.old.right + on_right side 1 ≤ 4294967295 }
