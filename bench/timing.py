@@ -10,9 +10,9 @@ from pathlib import Path
 TOP = Path(__file__).resolve().parent.parent
 
 
-def built_program():
-    """The path of the built prover: made by `rt run` in crates/spass."""
-    found = sorted((TOP / "crates" / "spass" / "out").rglob("spass"), key=lambda p: p.stat().st_mtime)
+def built_program(name="spass"):
+    """The path of a built program: made by `rt run` in its crate's folder."""
+    found = sorted((TOP / "crates" / name / "out").rglob(name), key=lambda p: p.stat().st_mtime)
     found = [p for p in found if p.is_file() and os.access(p, os.X_OK)]
     return found[-1] if found else None
 

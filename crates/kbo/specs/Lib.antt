@@ -1,0 +1,4 @@
+pub mod Comparisons
+pub mod Views
+pub mod Tallies
+pub mod Measures

@@ -1,0 +1,20 @@
+//! The order on terms, and the maximal and eligible places of a clause.
+#![tactic(auto)]
+
+mod comparing;
+mod heads;
+mod measuring;
+mod order;
+mod ordering;
+mod places;
+mod side;
+mod tally;
+#[cfg(test)]
+mod tests;
+mod view;
+mod walking;
+
+pub use comparing::{compare, compare_views};
+pub use order::Order;
+pub use places::{eligible, maximal};
+pub use view::View;
