@@ -154,7 +154,7 @@ split_within n a b more p x y = subst (AllWithin n) (sym p.are) (AllWithin-zip n
 pub single-self : (v : ℕ) (t : Term) → single v t v ≡ t
 single-self v t = if_true (v == v) t (Var v) (eq-eqb v v refl)
 
-single-apart : (v : ℕ) (t : Term) → occurs v t ≡ false → replace (single v t) t ≡ t
+pub single-apart : (v : ℕ) (t : Term) → occurs v t ≡ false → replace (single v t) t ≡ t
 single-apart v t apart = agree (single v t) Var t (λ x o. at x o (v == x) refl) ∙ replace-themselves t
   where
     at : (x : ℕ) → occurs x t ≡ true → (b : Bool) → (v == x) ≡ b → (if b then t else Var x) ≡ Var x

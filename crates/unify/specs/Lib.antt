@@ -1,0 +1,4 @@
+pub mod Below
+pub mod Bindings
+pub mod Matches
+pub mod Solving
