@@ -78,7 +78,7 @@ impl<'a> Bindings<'a> {
     }
 
     /// The term of the variable: what it is bound to, or the variable itself. The only error is want of memory.
-    fn entry(&self, alloc: Global, variable: u32) -> Result<Term, AllocError>
+    pub(crate) fn entry(&self, alloc: Global, variable: u32) -> Result<Term, AllocError>
         ensures { IfOk result (λ term. term ≡ filled self.now.1 variable) }
     {
         match self.get(variable) {

@@ -5,6 +5,8 @@ mod below;
 mod bindings;
 mod equations;
 mod matching;
+#[cfg(test)]
+mod tests;
 mod triangular;
 mod unifying;
 
