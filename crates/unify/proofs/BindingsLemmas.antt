@@ -1,5 +1,5 @@
 -- The list of bindings by variables and the list by time.
-use Rattle.std.proofs.Common.{◌≡◌, ℕ, zero, suc, ◌<◌, Bool, true, false, ◌==◌, if◌then◌else◌, eq-eqb, List, [], ◌∷◌, ◌++◌, length, map, Option, Some, None, option_map, unwrap_or, refl, sym, ap, subst, ◌∙◌, arith}
+use Rattle.std.proofs.Common.{◌≡◌, ℕ, zero, suc, ◌≤◌, ◌<◌, Bool, true, false, ◌==◌, if◌then◌else◌, eq-eqb, List, [], ◌∷◌, ◌++◌, length, map, Option, Some, None, option_map, unwrap_or, drop, refl, sym, ap, subst, ◌∙◌, arith, length-append}
 use Rattle.std.specs.Prelude.{replicate, reverse, slice_set}
 use Rattle.std.specs.List.{slice_get}
 use Rattle.std.specs.Borrow.{Bor}
@@ -64,6 +64,73 @@ pub newest_last : (made : List (ℕ × Bor Term)) (v : ℕ) (t : Bor Term) → n
 newest_last made v t =
     ap reverse (map-append (λ (b : ℕ × Bor Term). (b.0, b.1.now)) made ((v, t) ∷ []))
     ∙ reverse-append (map (λ (b : ℕ × Bor Term). (b.0, b.1.now)) made) ((v, t.now) ∷ [])
+
+-- ---- one binding less
+
+module _ (terms : List (Option Term)) (b : ℕ × Term) (bs : List (ℕ × Term)) (index : IsIndexed terms (b ∷ bs)) where
+  found_before : (w : ℕ) (c : Bool) → (w == b.0) ≡ c → term_at (slice_set terms b.0 None) w ≡ bound_to bs w
+  found_before w true e =
+      ap (term_at (slice_set terms b.0 None)) (eqb-true w b.0 e)
+      ∙ ap (λ o. unwrap_or o None) (get_set_same terms b.0 None index.once.0)
+      ∙ sym (ap (bound_to bs) (eqb-true w b.0 e) ∙ index.once.1)
+  found_before w false e =
+      ap (λ o. unwrap_or o None) (get_set_other terms b.0 w None (λ same. false≢true (sym e ∙ eq-eqb w b.0 same)))
+      ∙ index.finds w
+      ∙ ap (λ c. if c then Some b.1 else bound_to bs w) e
+
+  pub undone_once : IsIndexed (slice_set terms b.0 None) bs
+  undone_once = record {
+    finds = λ w. found_before w (w == b.0) refl;
+    once = subst (λ n. IsOnce n bs) (sym (length_set terms b.0 None)) index.once.2;
+  }
+
+pub undone_in_fields : (terms : List (Option (Bor Term))) (made made' : List (ℕ × Bor Term)) (v : ℕ) (t : Bor Term) → IsIndexed (plain_terms terms) (newest_first made) → made ≡ made' ++ (v, t) ∷ [] → IsIndexed (plain_terms (slice_set terms v None)) (newest_first made')
+undone_in_fields terms made made' v t index is =
+    let p = ap newest_first is ∙ newest_last made' v t in
+    let h = undone_once (plain_terms terms) (v, t.now) (newest_first made') (subst (IsIndexed (plain_terms terms)) p index) in
+    subst (λ l. IsIndexed l (newest_first made')) (sym (map-set (option_map (λ (x : Bor Term). x.now)) terms v None)) h
+
+pub newest_in_range : (terms : List (Option (Bor Term))) (made made' : List (ℕ × Bor Term)) (v : ℕ) (t : Bor Term) → IsIndexed (plain_terms terms) (newest_first made) → made ≡ made' ++ (v, t) ∷ [] → v < length terms
+newest_in_range terms made made' v t index is =
+    let p = ap newest_first is ∙ newest_last made' v t in
+    let k : IsIndexed (plain_terms terms) ((v, t.now) ∷ newest_first made') = subst (IsIndexed (plain_terms terms)) p index in
+    let lt = k.once.0 in
+    omega (arith, length_plain terms)
+
+pub newest_dropped : (made made' : List (ℕ × Bor Term)) (v : ℕ) (t : Bor Term) → made ≡ made' ++ (v, t) ∷ [] → newest_first made' ≡ drop 1 (newest_first made)
+newest_dropped made made' v t is = sym (ap (drop 1) (ap newest_first is ∙ newest_last made' v t))
+
+-- ---- as many bindings as before
+
+abbrev pub IsPast : (count : ℕ) (old now : ℕ × List (ℕ × Term)) → Type 0
+IsPast count old now = (now.0 ≡ old.0) × ((more before : List (ℕ × Term)) → old.1 ≡ more ++ before → length before ≡ count → (left : List (ℕ × Term)) × (now.1 ≡ left ++ before))
+
+pub past_first : (count : ℕ) (old : ℕ × List (ℕ × Term)) → IsPast count old old
+past_first count old = (refl, λ more before is many. (more, is))
+
+one_less : (now : List (ℕ × Term)) (left before : List (ℕ × Term)) → length before < length now → now ≡ left ++ before → (rest : List (ℕ × Term)) × (drop 1 now ≡ rest ++ before)
+one_less now [] before h e = absurd (omega (arith, ap length e))
+one_less now (x ∷ left) before h e = (left, ap (drop 1) e)
+
+pub past_on : (count : ℕ) (old now new : ℕ × List (ℕ × Term)) → count < length now.1 → new ≡ (now.0, drop 1 now.1) → IsPast count old now → IsPast count old new
+past_on count old now new h is past = (
+  ap (λ (b : ℕ × List (ℕ × Term)). b.0) is ∙ past.0,
+  λ more before e many.
+      let k = past.1 more before e many in
+      let m = one_less now.1 k.0 before (omega (arith, many, h)) k.1 in
+      (m.0, ap (λ (b : ℕ × List (ℕ × Term)). b.1) is ∙ m.1),
+)
+
+all_left : (now left before : List (ℕ × Term)) → length now ≤ length before → now ≡ left ++ before → now ≡ before
+all_left now [] before h e = e
+all_left now (x ∷ left) before h e = absurd (omega (arith, ap length e, length-append left before))
+
+pub past_last : (count : ℕ) (old now : ℕ × List (ℕ × Term)) → length now.1 ≤ count → IsPast count old now → (more before : List (ℕ × Term)) → old.1 ≡ more ++ before → length before ≡ count → now ≡ (old.0, before)
+past_last count old now h past more before e many =
+    let k = past.1 more before e many in
+    let p = past.0 in
+    let q = all_left now.1 k.0 before (omega (arith, many, h)) k.1 in
+    λ i. (p i, q i)
 
 -- ---- no binding
 

@@ -1,4 +1,5 @@
-ghost use Rattle.std.specs.Prelude.{◌≡◌, ℕ, [], ◌∷◌, ◌-◌, ◌<◌, ◌≤◌, length, drop, Option, Some, None, IfOk, OnOk, OnErr, MatchOption};
+ghost use Rattle.std.specs.Prelude.{◌≡◌, ℕ, List, [], ◌∷◌, ◌++◌, ◌<◌, length, drop, Some, None, IfOk, OnOk, OnErr, MatchOption};
+ghost use Rattle.spl_terms.specs.declared.term.Term.{Term};
 ghost use Rattle.spl_truth.specs.Unifiers.{entries_below};
 ghost use Rattle.unify.specs.Bindings.{bound_to, filled};
 
@@ -68,6 +69,25 @@ impl<'a> Bindings<'a> {
         self.made.push((variable, term))?;
         self.terms[variable as usize] = Some(term);
         Ok(())
+    }
+
+    /// Takes back the newest binding, if there is one.
+    fn undo_newest(&mut self)
+        ensures { self.new ≡ (self.old.0, drop 1 self.old.1) }
+    {
+        if let Some((variable, _)) = self.made.pop() {
+            self.terms[variable as usize] = None;
+        }
+    }
+
+    /// Takes back all bindings but the first `count`. Where the bindings were that many before more were made, they are
+    /// again what they were.
+    pub fn undo(&mut self, count: usize)
+        ensures { (more before : List (ℕ × Term)) → self.old.1 ≡ more ++ before → length before ≡ count → self.new ≡ (self.old.0, before) }
+    {
+        while self.count() > count {
+            self.undo_newest();
+        }
     }
 
     /// How many variables are bound.

@@ -238,6 +238,8 @@ fn goes_on_from_bindings(rt: HostRuntime) -> Result<(), Fail> {
     assert_eq!(rt; found.count(), 2);
     assert!(rt; match_terms(more.as_slice(), fits.as_slice(), &mut found)?);
     assert!(rt; !match_terms(more.as_slice(), clashes.as_slice(), &mut found)?);
+    found.undo(2);
+    assert_eq!(rt; found.count(), 2);
     let entries = list(alloc, a(alloc), variable(7))?;
     assert!(rt;
         all_equal(
@@ -246,5 +248,8 @@ fn goes_on_from_bindings(rt: HostRuntime) -> Result<(), Fail> {
         )
     );
     assert!(rt; found.get(1).is_some_and(|term| term.equals(&variable(7))));
+    found.undo(0);
+    assert!(rt; found.get(1).is_none());
+    assert!(rt; match_terms(more.as_slice(), clashes.as_slice(), &mut found)?);
     Ok(())
 }

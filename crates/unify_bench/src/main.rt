@@ -2,6 +2,8 @@
 //! call took, and else how many variables the answers bind.
 #![tactic(auto)]
 
+ghost use Rattle.spl_truth.specs.Unifiers.{HasVariablesBelow};
+
 use spl_terms::{Items, Kind, Symbol, Term};
 use spl_truth::Subst;
 use std::alloc::{AllocError, Global};
@@ -125,10 +127,10 @@ fn bound(found: &Option<Subst>) -> u64 {
 }
 
 /// How many variables the answer binds.
-fn bound_by(alloc: Global, call: Call, left: &Term, right: &Term) -> Result<u64, AllocError> {
-    if !has_variables_below(left, VARS) || !has_variables_below(right, VARS) {
-        return Ok(0);
-    }
+fn bound_by(alloc: Global, call: Call, left: &Term, right: &Term) -> Result<u64, AllocError>
+    requires left { HasVariablesBelow 20 left.now }
+    requires right { HasVariablesBelow 20 right.now }
+{
     let found = match call {
         Call::Unify | Call::UnifyApart => unify(alloc, left, right, VARS)?,
         Call::Match | Call::MatchApart => match_into(alloc, left, right, VARS)?,
@@ -147,17 +149,35 @@ fn pairs(alloc: Global, call: Call, leaves: u32) -> Result<Vec<(Term, Term)>, Al
     Ok(made)
 }
 
-/// How many variables are bound by so many calls, which take the pairs in turn.
+/// How many variables are bound by so many calls with the same terms.
 fn bound_in_calls(
+    alloc: Global,
+    call: Call,
+    left: &Term,
+    right: &Term,
+    rounds: u64,
+) -> Result<u64, AllocError>
+    requires left { HasVariablesBelow 20 left.now }
+    requires right { HasVariablesBelow 20 right.now }
+{
+    let mut count: u64 = 0;
+    for _ in 0..rounds {
+        count = count.saturating_add(bound_by(alloc, call, left, right)?);
+    }
+    Ok(count)
+}
+
+/// How many variables are bound by so many calls with each pair of terms.
+fn bound_in_all(
     alloc: Global,
     call: Call,
     pairs: &[(Term, Term)],
     rounds: u64,
 ) -> Result<u64, AllocError> {
     let mut count: u64 = 0;
-    for _ in 0..rounds {
-        for (left, right) in pairs {
-            count = count.saturating_add(bound_by(alloc, call, left, right)?);
+    for (left, right) in pairs {
+        if has_variables_below(left, VARS) && has_variables_below(right, VARS) {
+            count = count.saturating_add(bound_in_calls(alloc, call, left, right, rounds)?);
         }
     }
     Ok(count)
@@ -175,7 +195,7 @@ fn print_time<R: Runtime>(rt: &R, alloc: Global, call: Call, leaves: u32) -> io:
     let symbols = 3 * leaves as u64 + 1;
     let rounds = 1_000_000 / symbols;
     let start = Instant::now(rt)?;
-    let count = bound_in_calls(alloc, call, pairs.as_slice(), rounds)?;
+    let count = bound_in_all(alloc, call, pairs.as_slice(), rounds)?;
     let spent = start.elapsed(rt)?.as_nanos();
     let calls = rounds as u128 * PAIRS as u128;
     println!(rt;
@@ -194,8 +214,8 @@ fn main(rt: HostRuntime) -> io::Result<()> {
                 print_time(&rt, alloc, call, leaves)?;
             } else {
                 let pairs = pairs(alloc, call, leaves)?;
-                let count = bound_in_calls(alloc, call, pairs.as_slice(), 1)?;
                 let symbols = 3 * leaves as u64 + 1;
+                let count = bound_in_all(alloc, call, pairs.as_slice(), 1)?;
                 println!(rt; "{}, {symbols} symbols: {count} bound", call.name())?;
             }
         }
