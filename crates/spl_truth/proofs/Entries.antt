@@ -2,6 +2,7 @@
 use Rattle.std.proofs.Common.{◌≡◌, ℕ, zero, suc, ◌≤◌, ◌<◌, nat_lt, Bool, true, false, if◌then◌else◌, ◌==◌, List, [], ◌∷◌, ◌++◌, length, map, Some, None, option_map, unwrap_or, refl, sym, ap, subst, ◌∙◌, arith}
 use Rattle.std.specs.List.{slice_get}
 use Rattle.std.proofs.lemmas.Bool.{eqb-true, ltb-true, ltb-false}
+use Rattle.std.proofs.lemmas.Option.{slice_get_past, slice_get-map}
 use Rattle.spl_terms.specs.declared.term.Term.{Term, Var}
 use Rattle.spl_terms.specs.Terms.{replace}
 use Rattle.spl_truth.specs.Truth.{entry}
@@ -12,18 +13,6 @@ get_in : (xs : List Term) (v : ℕ) → v < length xs → (x : Term) × (slice_g
 get_in [] v h = absurd (omega arith)
 get_in (x ∷ xs) zero h = (x, refl)
 get_in (x ∷ xs) (suc v) h = get_in xs v (omega arith)
-
-get_beyond : (xs : List Term) (v : ℕ) → length xs ≤ v → slice_get xs v ≡ None
-get_beyond [] zero h = refl
-get_beyond [] (suc v) h = refl
-get_beyond (x ∷ xs) zero h = absurd (omega arith)
-get_beyond (x ∷ xs) (suc v) h = get_beyond xs v (omega arith)
-
-get-map : (f : Term → Term) (xs : List Term) (v : ℕ) → slice_get (map f xs) v ≡ option_map f (slice_get xs v)
-get-map f [] zero = refl
-get-map f [] (suc v) = refl
-get-map f (x ∷ xs) zero = refl
-get-map f (x ∷ xs) (suc v) = get-map f xs v
 
 get_before : (xs ys : List Term) (v : ℕ) → v < length xs → slice_get (xs ++ ys) v ≡ slice_get xs v
 get_before [] ys v h = absurd (omega arith)
@@ -70,7 +59,7 @@ entry-entries_below n u beyond = λ i v. at v i
   where
     by_test : (v : ℕ) (b : Bool) → nat_lt v n ≡ b → entry (entries_below n u) v ≡ u v
     by_test v true e = ap (λ o. unwrap_or o (Var v)) (get_below n u v (ltb-true v n e))
-    by_test v false e = let ge : n ≤ v = ltb-false v n e in ap (λ o. unwrap_or o (Var v)) (get_beyond (entries_below n u) v (omega (arith, length-entries_below n u))) ∙ sym (beyond v ge)
+    by_test v false e = let ge : n ≤ v = ltb-false v n e in ap (λ o. unwrap_or o (Var v)) (slice_get_past (entries_below n u) v (omega (arith, length-entries_below n u))) ∙ sym (beyond v ge)
 
     at : (v : ℕ) → entry (entries_below n u) v ≡ u v
     at v = by_test v (nat_lt v n) refl
@@ -88,11 +77,11 @@ entry-bound xs v t below = λ i w. at w i
     by_test : (w : ℕ) (b : Bool) → nat_lt w (length xs) ≡ b → entry (map (replace (single v t)) xs) w ≡ replace (single v t) (entry xs w)
     by_test w true e =
         let x = get_in xs w (ltb-true w (length xs) e) in
-        ap (λ o. unwrap_or o (Var w)) (get-map (replace (single v t)) xs w ∙ ap (option_map (replace (single v t))) x.1) ∙ sym (ap (λ o. replace (single v t) (unwrap_or o (Var w))) x.1)
+        ap (λ o. unwrap_or o (Var w)) (slice_get-map (replace (single v t)) xs w ∙ ap (option_map (replace (single v t))) x.1) ∙ sym (ap (λ o. replace (single v t) (unwrap_or o (Var w))) x.1)
     by_test w false e =
         let ge : length xs ≤ w = ltb-false w (length xs) e in
-        let none = get_beyond xs w ge in
-        ap (λ o. unwrap_or o (Var w)) (get-map (replace (single v t)) xs w ∙ ap (option_map (replace (single v t))) none) ∙ other w (v == w) refl ge ∙ sym (ap (λ o. replace (single v t) (unwrap_or o (Var w))) none ∙ replace-Var (single v t) w)
+        let none = slice_get_past xs w ge in
+        ap (λ o. unwrap_or o (Var w)) (slice_get-map (replace (single v t)) xs w ∙ ap (option_map (replace (single v t))) none) ∙ other w (v == w) refl ge ∙ sym (ap (λ o. replace (single v t) (unwrap_or o (Var w))) none ∙ replace-Var (single v t) w)
 
     at : (w : ℕ) → entry (map (replace (single v t)) xs) w ≡ replace (single v t) (entry xs w)
     at w = by_test w (nat_lt w (length xs)) refl
@@ -107,4 +96,4 @@ entries_below-entry n xs m = same_entries (entries_below n (entry xs)) xs (λ v.
         get_below n (entry xs) v lt ∙ ap (λ o. Some (unwrap_or o (Var v))) x.1 ∙ sym x.1
     by_test v false e =
         let ge : n ≤ v = ltb-false v n e in
-        get_beyond (entries_below n (entry xs)) v (omega (arith, length-entries_below n (entry xs))) ∙ sym (get_beyond xs v (omega arith))
+        slice_get_past (entries_below n (entry xs)) v (omega (arith, length-entries_below n (entry xs))) ∙ sym (slice_get_past xs v (omega arith))

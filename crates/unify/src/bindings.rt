@@ -1,4 +1,4 @@
-ghost use Rattle.std.specs.Prelude.{◌≡◌, ℕ, List, [], ◌∷◌, ◌++◌, ◌<◌, length, drop, Some, None, IfOk, OnOk, OnErr, MatchOption};
+ghost use Rattle.std.specs.Prelude.{◌≡◌, ℕ, List, [], ◌∷◌, ◌++◌, ◌-◌, ◌<◌, length, drop, Some, None, IfOk, OnOk, OnErr, MatchOption};
 ghost use Rattle.spl_terms.specs.declared.term.Term.{Term};
 ghost use Rattle.spl_truth.specs.Unifiers.{entries_below};
 ghost use Rattle.unify.specs.Bindings.{bound_to, filled};
@@ -45,7 +45,7 @@ impl<'a> Bindings<'a> {
         }
         Ok(Bindings {
             terms,
-            made: Vec::with_capacity(alloc, vars as usize)?,
+            made: Vec::new(alloc),
         })
     }
 
@@ -83,7 +83,8 @@ impl<'a> Bindings<'a> {
     /// Takes back all bindings but the first `count`. Where the bindings were that many before more were made, they are
     /// again what they were.
     pub fn undo(&mut self, count: usize)
-        ensures { (more before : List (ℕ × Term)) → self.old.1 ≡ more ++ before → length before ≡ count → self.new ≡ (self.old.0, before) }
+        ensures exact { self.new ≡ (self.old.0, drop (length self.old.1 - count) self.old.1) }
+        ensures restored { (more before : List (ℕ × Term)) → self.old.1 ≡ more ++ before → length before ≡ count → self.new ≡ (self.old.0, before) }
     {
         while self.count() > count {
             self.undo_newest();

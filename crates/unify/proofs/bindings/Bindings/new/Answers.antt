@@ -2,4 +2,4 @@ use Rattle.unify.proofs.BindingsLemmas.{index_of_none}
 use Rattle.unify.proofs.bindings.Bindings.new.Goals as goal
 
 pub invariant_of-result : goal.invariant_of-result
-invariant_of-result c = index_of_none c.loop.counter c.loop.terms.items c.in_ok-with_capacity.field-0.items c.loop.invariant c.in_ok-with_capacity.ensures.items
+invariant_of-result c = index_of_none c.loop.counter c.loop.terms.items c.new.result.items c.loop.invariant c.new.ensures.items
