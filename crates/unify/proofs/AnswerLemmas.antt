@@ -1,23 +1,25 @@
 -- From where the list of equations leads to what the public calls answer.
-use Rattle.std.proofs.Common.{◌≡◌, ℕ, ◌≤◌, nat_lt, Bool, true, false, ◌&&◌, ◌==◌, List, [], ◌∷◌, ◌++◌, length, map, Option, Some, None, option_map, Result, Ok, Err, IfOk, IfSome, MatchOption, refl, sym, ap, subst, ◌∙◌, ◌↔◌, arith}
+use Rattle.std.proofs.Common.{◌≡◌, ℕ, suc, ◌≤◌, nat_lt, Bool, true, false, ◌&&◌, List, [], ◌∷◌, ◌++◌, length, Option, Some, None, option_map, Result, Ok, Err, IfOk, IfSome, MatchOption, refl, sym, ap, subst, ◌∙◌, ◌↔◌, arith}
 use Rattle.std.specs.List.{zip}
-use Rattle.std.proofs.lemmas.Bool.{eqb-true, ltb-true}
+use Rattle.std.proofs.lemmas.Bool.{ltb-true}
 use Rattle.spl_terms.specs.declared.term.Symbol.{Symbol}
 use Rattle.spl_terms.specs.declared.term.Term.{Term, Var, App}
-use Rattle.spl_terms.specs.Terms.{symbol_eq, replace}
-use Rattle.spl_terms.proofs.TermLemmas.{symbol_eq-refl}
+use Rattle.spl_terms.specs.Terms.{replace}
+use Rattle.spl_terms.proofs.TermLemmas.{symbol_eq-refl, and-parts}
 use Rattle.spl_truth.specs.declared.replace.Subst.{Subst}
 use Rattle.spl_truth.specs.Truth.{entry}
-use Rattle.spl_truth.specs.Unifiers.{solution, entries_below, unifier, HasVariablesBelow, HaveVariablesBelow, HasNoUnifier, IsMostGeneral, action, Leads, fails}
+use Rattle.spl_truth.specs.Unifiers.{solution, entries_below, unifier, HasVariablesBelow, HaveVariablesBelow, HasNoUnifier, IsMostGeneral, Leads}
 use Rattle.spl_truth.proofs.Replacing.{replace-App}
 use Rattle.spl_truth.proofs.Occurring.{replace-themselves}
 use Rattle.spl_truth.proofs.Entries.{length-entries_below, entry-entries_below, entries_below-entry}
 use Rattle.unify.specs.Below.{EquationsBelow}
+use Rattle.unify.specs.Fitting.{fits, all_fit}
 use Rattle.unify.specs.Bindings.{substitution, IsTriangular}
 use Rattle.unify.specs.Solving.{outcome}
 use Rattle.unify.proofs.BelowLemmas.{below_from, below_to, are_below_from, application_below, zip_below}
 use Rattle.unify.proofs.TriangularLemmas.{stands}
-use Rattle.unify.proofs.SolvingLemmas.{apart_applications, split_leads, length_map}
+use Rattle.unify.proofs.FittingLemmas.{fits-App-App, misfits, none_general}
+use Rattle.unify.proofs.SolvingLemmas.{split_leads}
 
 -- ---- the solution
 
@@ -85,16 +87,24 @@ arguments_lead f ss ts first es r many none is h =
     split_leads Var (λ t. replace-themselves (replace Var t)) (App f ss) (App f ts) f f ss ts (replace-App Var f ss) (replace-App Var f ts) (symbol_eq-refl f) many [] r
     (subst (λ l. Leads Var l r) (is ∙ ap (λ l. zip ss ts ++ l) none) h)
 
-differing : (m n : ℕ) → (m ≡ n → ⊥) → (b : Bool) → (m == n) ≡ b → (m == n) ≡ false
-differing m n ne true e = absurd (ne (eqb-true m n e))
-differing m n ne false e = e
+-- ---- terms that don't fit
 
-pub other_lengths : (f : Symbol) (ss ts : List Term) → (length ss ≡ length ts → ⊥) → Leads Var ((App f ss, App f ts) ∷ []) None
-other_lengths f ss ts ne =
-    let p = replace-App Var f ss in
-    let q = replace-App Var f ts in
-    let m = length_map (replace Var) ss in
-    let n = length_map (replace Var) ts in
-    let apart : (symbol_eq f f && (length (map (replace Var) ss) == length (map (replace Var) ts))) ≡ false =
-    (λ i. symbol_eq-refl f i && (m i == n i)) ∙ differing _ _ ne _ refl in
-    fails Var (App f ss, App f ts) [] ((λ i. action (p i) (q i)) ∙ apart_applications f f (map (replace Var) ss) (map (replace Var) ts) apart)
+none_before : (f : (ℕ → Term) → List Term) (o : Option (ℕ → Term)) → option_map f o ≡ None → o ≡ None
+none_before f None e = refl
+none_before f (Some s) e = absurd (cc)
+
+module _ (vars : ℕ) (a b : Term) (below_a : HasVariablesBelow vars a) (below_b : HasVariablesBelow vars b) (general_law : GeneralLaw) (apart : fits a b ≡ false) where
+  pub misfit_exact : None ≡ unifier vars a b
+  misfit_exact = sym (none_general a b (misfits a b apart) (unifier vars a b) (general_law vars a b below_a below_b))
+
+  pub misfit_leads : StepsLaw → Leads Var ((a, b) ∷ []) None
+  misfit_leads law = (law vars a b below_a below_b None).1 (none_before (entries_below vars) _ (sym misfit_exact))
+
+pub arguments_apart : (f : Symbol) (ss ts : List Term) (test : Bool) → test ≡ all_fit ss ts → test ≡ false → fits (App f ss) (App f ts) ≡ false
+arguments_apart f ss ts test is apart = fits-App-App f ss f ts ∙ ap (λ b. b && all_fit ss ts) (symbol_eq-refl f) ∙ sym is ∙ apart
+
+pub as_many_fit : (ss ts : List Term) → all_fit ss ts ≡ true → length ss ≡ length ts
+as_many_fit [] [] e = refl
+as_many_fit [] (t ∷ ts) e = absurd (cc)
+as_many_fit (s ∷ ss) [] e = absurd (cc)
+as_many_fit (s ∷ ss) (t ∷ ts) e = ap suc (as_many_fit ss ts (and-parts (fits s t) (all_fit ss ts) e).1)

@@ -4,3 +4,4 @@ pub mod TriangularLemmas
 pub mod SolvingLemmas
 pub mod AnswerLemmas
 pub mod MatchLemmas
+pub mod FittingLemmas

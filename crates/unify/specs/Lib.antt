@@ -2,3 +2,4 @@ pub mod Below
 pub mod Bindings
 pub mod Matches
 pub mod Solving
+pub mod Fitting

@@ -1,6 +1,6 @@
 use crate::{
-    Bindings, has_variables_below, have_variables_below, match_arguments, match_into, match_term,
-    match_terms, unify, unify_arguments,
+    Bindings, all_fit, fits, has_variables_below, have_variables_below, match_arguments,
+    match_into, match_term, match_terms, unify, unify_arguments,
 };
 use spl_terms::{Items, Kind, Symbol, Term, all_equal};
 use spl_truth::Subst;
@@ -154,6 +154,7 @@ fn unifies(rt: HostRuntime) -> Result<(), Fail> {
     for (place, row) in unified(alloc)?.iter().enumerate() {
         assert!(rt; has_variables_below(&row.left, 3));
         assert!(rt; has_variables_below(&row.right, 3));
+        assert!(rt; fits(&row.left, &row.right) || row.entries.is_none());
         let found = unify(alloc, &row.left, &row.right, 3)?;
         assert!(rt; is_answer(&found, &row.entries), "in row {place}");
     }
@@ -213,6 +214,14 @@ fn takes_lists_of_arguments(rt: HostRuntime) -> Result<(), Fail> {
     assert!(rt; have_variables_below(left.as_slice(), 2));
     assert!(rt; have_variables_below(right.as_slice(), 2));
     assert!(rt; !have_variables_below(left.as_slice(), 1));
+    assert!(rt; all_fit(left.as_slice(), right.as_slice()));
+    assert!(rt; !all_fit(left.as_slice(), &[]));
+    assert!(rt;
+        !fits(
+            &f(alloc, variable(0), a(alloc))?,
+            &f(alloc, a(alloc), g(alloc, a(alloc))?)?
+        )
+    );
     let both = list(alloc, g(alloc, a(alloc))?, g(alloc, a(alloc))?)?;
     let found = unify_arguments(alloc, left.as_slice(), right.as_slice(), 2)?;
     assert!(rt; is_answer(&found, &Some(both)));

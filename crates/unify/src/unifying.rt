@@ -9,6 +9,7 @@ ghost use Rattle.unify.specs.Solving.{Eliminated, Progressed, Settled, outcome};
 
 use crate::bindings::Bindings;
 use crate::equations::Equations;
+use crate::fitting::{all_fit, fits};
 use crate::triangular::{applied, dereferenced, occurs};
 use spl_terms::{Items, Symbol, Term};
 use spl_truth::{Subst, laws};
@@ -195,6 +196,9 @@ pub fn unify(alloc: Global, a: &Term, b: &Term, vars: u32) -> Result<Option<Subs
 {
     laws::steps_lead_to_unifier();
     laws::unifier_is_most_general();
+    if !fits(a, b) {
+        return Ok(None);
+    }
     let mut equations = Equations::new(alloc);
     equations.push(a, b)?;
     solution(alloc, &mut equations, vars)
@@ -215,7 +219,7 @@ pub fn unify_arguments(
 {
     laws::steps_lead_to_unifier();
     laws::unifier_is_most_general();
-    if left.len() != right.len() {
+    if !all_fit(left, right) {
         return Ok(None);
     }
     let mut equations = Equations::new(alloc);
