@@ -8,6 +8,7 @@ ghost use Rattle.spl_truth.specs.Matching.{IsMatcher, HasNoMatcher};
 ghost use Rattle.unify.specs.Matches.{FoundOrNot, IsExtended};
 
 use crate::bindings::Bindings;
+use crate::fitting::{all_cover, covers};
 use spl_terms::Term;
 use spl_truth::Subst;
 use std::alloc::{AllocError, Global};
@@ -103,6 +104,9 @@ pub fn match_into(
     requires { HasVariablesBelow vars pattern.now }
     ensures { IfOk result (λ found. MatchOption found (HasNoMatcher pattern.now target.now) (λ s. IsMatcher vars pattern.now target.now s.terms)) }
 {
+    if !covers(pattern, target) {
+        return Ok(None);
+    }
     let mut found = Bindings::new(alloc, vars)?;
     if match_term(pattern, target, &mut found)? {
         Ok(Some(found.entries(alloc, vars)?))
@@ -122,6 +126,9 @@ pub fn match_arguments(
     requires { HaveVariablesBelow vars patterns.now }
     ensures { (head : Symbol) → IfOk result (λ found. MatchOption found (HasNoMatcher (App head patterns.now) (App head targets.now)) (λ s. IsMatcher vars (App head patterns.now) (App head targets.now) s.terms)) }
 {
+    if !all_cover(patterns, targets) {
+        return Ok(None);
+    }
     let mut found = Bindings::new(alloc, vars)?;
     if match_terms(patterns, targets, &mut found)? {
         Ok(Some(found.entries(alloc, vars)?))

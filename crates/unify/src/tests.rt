@@ -1,6 +1,6 @@
 use crate::{
-    Bindings, all_fit, fits, has_variables_below, have_variables_below, match_arguments,
-    match_into, match_term, match_terms, unify, unify_arguments,
+    Bindings, all_cover, all_fit, covers, fits, has_variables_below, have_variables_below,
+    match_arguments, match_into, match_term, match_terms, unify, unify_arguments,
 };
 use spl_terms::{Items, Kind, Symbol, Term, all_equal};
 use spl_truth::Subst;
@@ -200,6 +200,7 @@ fn matches(rt: HostRuntime) -> Result<(), Fail> {
     let alloc = rt.alloc();
     for (place, row) in matched(alloc)?.iter().enumerate() {
         assert!(rt; has_variables_below(&row.left, 3));
+        assert!(rt; covers(&row.left, &row.right) || row.entries.is_none());
         let found = match_into(alloc, &row.left, &row.right, 3)?;
         assert!(rt; is_answer(&found, &row.entries), "in row {place}");
     }
@@ -216,6 +217,8 @@ fn takes_lists_of_arguments(rt: HostRuntime) -> Result<(), Fail> {
     assert!(rt; !have_variables_below(left.as_slice(), 1));
     assert!(rt; all_fit(left.as_slice(), right.as_slice()));
     assert!(rt; !all_fit(left.as_slice(), &[]));
+    assert!(rt; all_cover(left.as_slice(), right.as_slice()));
+    assert!(rt; !all_cover(right.as_slice(), left.as_slice()));
     assert!(rt;
         !fits(
             &f(alloc, variable(0), a(alloc))?,
