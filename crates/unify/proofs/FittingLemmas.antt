@@ -1,0 +1,122 @@
+-- Terms that fit, as terms with a unifier do, and terms that cover others, as their instances.
+use Rattle.std.proofs.Common.{◌≡◌, ℕ, Bool, true, false, ◌&&◌, List, [], ◌∷◌, map, Option, Some, None, MatchOption, refl, sym, ap, ◌∙◌}
+use Rattle.std.proofs.Math.Bool.{true-and}
+use Rattle.std.proofs.lemmas.Bool.{false≢true}
+use Rattle.spl_terms.specs.declared.term.Symbol.{Symbol}
+use Rattle.spl_terms.specs.declared.term.Term.{Term, Var, App}
+use Rattle.spl_terms.specs.declared.term.Term.TheViews.{outs-Var, outs-App}
+use Rattle.spl_terms.specs.Terms.{symbol_eq, all_pass, replace}
+use Rattle.spl_terms.proofs.TermLemmas.{Each, term_induction, fold-Var, fold-App, term_symbols-App, term_symbols-positive, symbol_eq-refl}
+use Rattle.spl_truth.specs.Truth.{entry}
+use Rattle.spl_truth.specs.Matching.{HasNoMatcher}
+use Rattle.spl_truth.specs.Unifiers.{IsUnifier, HasNoUnifier, IsMostGeneral}
+use Rattle.spl_truth.proofs.Replacing.{replace-App}
+use Rattle.spl_truth.proofs.Occurring.{same_arguments, same_symbols, no_application}
+use Rattle.unify.specs.Fitting.{may_be, fitting_step, fits, all_fit, may_become, covering_step, covers, all_cover}
+
+pub fits-Var : (v : ℕ) (t : Term) → fits (Var v) t ≡ true
+fits-Var v t = ap (λ (h : Term → Bool). h t) (fold-Var fitting_step v)
+
+pub fits-App-Var : (f : Symbol) (ss : List Term) (w : ℕ) → fits (App f ss) (Var w) ≡ true
+fits-App-Var f ss w = ap (λ (h : Term → Bool). h (Var w)) (fold-App fitting_step f ss) ∙ ap (may_be f (map fits ss)) (outs-Var w)
+
+all_pass-fits : (ss ts : List Term) → all_pass (map fits ss) ts ≡ all_fit ss ts
+all_pass-fits [] [] = refl
+all_pass-fits [] (t ∷ ts) = refl
+all_pass-fits (s ∷ ss) [] = refl
+all_pass-fits (s ∷ ss) (t ∷ ts) = ap (λ b. fits s t && b) (all_pass-fits ss ts)
+
+pub fits-App-App : (f : Symbol) (ss : List Term) (g : Symbol) (ts : List Term) → fits (App f ss) (App g ts) ≡ (symbol_eq f g && all_fit ss ts)
+fits-App-App f ss g ts =
+    ap (λ (h : Term → Bool). h (App g ts)) (fold-App fitting_step f ss)
+    ∙ ap (may_be f (map fits ss)) (outs-App g ts)
+    ∙ ap (λ b. symbol_eq f g && b) (all_pass-fits ss ts)
+
+pub ruleset fits_laws = (fits-Var, fits-App-Var, fits-App-App, term_symbols-App, term_symbols-positive)
+
+pub fitting_apps : (s t : Term) (f g : Symbol) (ss ts as' bs : List Term) (q r : Bool) → s ≡ App f ss → t ≡ App g ts → q ≡ symbol_eq f g → q ≡ true → as' ≡ ss → bs ≡ ts → r ≡ all_fit as' bs → r ≡ fits s t
+fitting_apps s t f g ss ts as' bs q r p1 p2 p3 p4 p5 p6 p7 = cc (fits-App-App f ss g ts, true-and (all_fit ss ts))
+
+-- ---- terms with a unifier fit
+
+module _ (g : ℕ → Term) where
+  each_fits : (ss ts : List Term) → Each (λ s. (t : Term) → replace g s ≡ replace g t → fits s t ≡ true) ss → map (replace g) ss ≡ map (replace g) ts → all_fit ss ts ≡ true
+  each_fits [] [] each e = refl
+  each_fits [] (t ∷ ts) each e = absurd (cc)
+  each_fits (s ∷ ss) [] each e = absurd (cc)
+  each_fits (s ∷ ss) (t ∷ ts) each e =
+      let a : replace g s ≡ replace g t = cc in
+      let b : map (replace g) ss ≡ map (replace g) ts = cc in
+      rw (each.0 t a, each_fits ss ts each.1 b)
+
+  pub unified_fit : (s t : Term) → IsUnifier g s t → fits s t ≡ true
+  unified_fit =
+      term_induction (λ s. (t : Term) → replace g s ≡ replace g t → fits s t ≡ true)
+      (λ v t e. fits-Var v t)
+      (λ f ss each. term_induction (λ t. replace g (App f ss) ≡ replace g t → fits (App f ss) t ≡ true)
+      (λ w e. fits-App-Var f ss w)
+      (λ h ts _ e.
+      let made = sym (replace-App g f ss) ∙ e ∙ replace-App g h ts in
+      let heads : f ≡ h = same_symbols _ _ _ _ made in
+      let one : symbol_eq f h ≡ true = ap (symbol_eq f) (sym heads) ∙ symbol_eq-refl f in
+      let two = each_fits ss ts each (same_arguments _ _ _ _ made) in
+      fits-App-App f ss h ts ∙ rw (one, two)))
+
+pub misfits : (a b : Term) → fits a b ≡ false → HasNoUnifier a b
+misfits a b e g same = false≢true (sym e ∙ unified_fit g a b same)
+
+-- where there is no unifier, a most general one is none
+pub none_general : (a b : Term) → HasNoUnifier a b → (o : Option (List Term)) → MatchOption o (HasNoUnifier a b) (λ entries. IsMostGeneral a b (entry entries)) → o ≡ None
+none_general a b never None h = refl
+none_general a b never (Some entries) h = absurd (never (entry entries) h.unifies)
+
+-- ---- a term covers its instances
+
+pub covers-Var : (v : ℕ) (t : Term) → covers (Var v) t ≡ true
+covers-Var v t = ap (λ (h : Term → Bool). h t) (fold-Var covering_step v)
+
+pub covers-App-Var : (f : Symbol) (ss : List Term) (w : ℕ) → covers (App f ss) (Var w) ≡ false
+covers-App-Var f ss w = ap (λ (h : Term → Bool). h (Var w)) (fold-App covering_step f ss) ∙ ap (may_become f (map covers ss)) (outs-Var w)
+
+all_pass-covers : (ss ts : List Term) → all_pass (map covers ss) ts ≡ all_cover ss ts
+all_pass-covers [] [] = refl
+all_pass-covers [] (t ∷ ts) = refl
+all_pass-covers (s ∷ ss) [] = refl
+all_pass-covers (s ∷ ss) (t ∷ ts) = ap (λ b. covers s t && b) (all_pass-covers ss ts)
+
+pub covers-App-App : (f : Symbol) (ss : List Term) (g : Symbol) (ts : List Term) → covers (App f ss) (App g ts) ≡ (symbol_eq f g && all_cover ss ts)
+covers-App-App f ss g ts =
+    ap (λ (h : Term → Bool). h (App g ts)) (fold-App covering_step f ss)
+    ∙ ap (may_become f (map covers ss)) (outs-App g ts)
+    ∙ ap (λ b. symbol_eq f g && b) (all_pass-covers ss ts)
+
+pub ruleset covers_laws = (covers-Var, covers-App-Var, covers-App-App, term_symbols-App, term_symbols-positive)
+
+module _ (g : ℕ → Term) where
+  each_covers : (ss ts : List Term) → Each (λ s. (t : Term) → replace g s ≡ t → covers s t ≡ true) ss → map (replace g) ss ≡ ts → all_cover ss ts ≡ true
+  each_covers [] [] each e = refl
+  each_covers [] (t ∷ ts) each e = absurd (cc)
+  each_covers (s ∷ ss) [] each e = absurd (cc)
+  each_covers (s ∷ ss) (t ∷ ts) each e =
+      let a : replace g s ≡ t = cc in
+      let b : map (replace g) ss ≡ ts = cc in
+      rw (each.0 t a, each_covers ss ts each.1 b)
+
+  pub instance_covered : (s t : Term) → replace g s ≡ t → covers s t ≡ true
+  instance_covered =
+      term_induction (λ s. (t : Term) → replace g s ≡ t → covers s t ≡ true)
+      (λ v t e. covers-Var v t)
+      (λ f ss each. term_induction (λ t. replace g (App f ss) ≡ t → covers (App f ss) t ≡ true)
+      (λ w e. absurd (no_application w f (map (replace g) ss) (sym (replace-App g f ss) ∙ e)))
+      (λ h ts _ e.
+      let made = sym (replace-App g f ss) ∙ e in
+      let heads : f ≡ h = same_symbols _ _ _ _ made in
+      let one : symbol_eq f h ≡ true = ap (symbol_eq f) (sym heads) ∙ symbol_eq-refl f in
+      let two = each_covers ss ts each (same_arguments _ _ _ _ made) in
+      covers-App-App f ss h ts ∙ rw (one, two)))
+
+pub uncovered : (p t : Term) → covers p t ≡ false → HasNoMatcher p t
+uncovered p t e g same = false≢true (sym e ∙ instance_covered g p t same)
+
+pub arguments_uncovered : (f : Symbol) (ss ts : List Term) (test : Bool) → test ≡ all_cover ss ts → test ≡ false → HasNoMatcher (App f ss) (App f ts)
+arguments_uncovered f ss ts test is apart = uncovered (App f ss) (App f ts) (covers-App-App f ss f ts ∙ ap (λ b. b && all_cover ss ts) (symbol_eq-refl f) ∙ sym is ∙ apart)

@@ -1,0 +1,5 @@
+pub mod Below
+pub mod Bindings
+pub mod Matches
+pub mod Solving
+pub mod Fitting
