@@ -1,5 +1,6 @@
 pub mod Rounds
 pub mod Spelled
+pub mod Names
 pub mod Limits
 pub mod Kept
 pub mod Ordered

@@ -96,8 +96,8 @@ word_spelled w (kinds.Word v) text some e own =
     let same : spelling v ≡ spelling w = (bytes_eq-Decides (spelling v) (spelling w)).0 e in
     let either : (word_of text ≡ words.Plain) ⊎ (spelling (word_of text) ≡ text) = first_spelled every_word text in
     elim either [
-      | inl plain ↦ absurd (some (sym same ∙ ap spelling (sym own ∙ plain)))
-      | inr is ↦ sym is ∙ ap spelling own ∙ same
+      | inl plain ↦ absurd (some (sym same ∙ ap spelling (sym own.0 ∙ plain)))
+      | inr is ↦ sym is ∙ ap spelling own.0 ∙ same
     ]
 word_spelled w kinds.Text text some e own = absurd cc
 word_spelled w (kinds.Mark n) text some e own = absurd cc

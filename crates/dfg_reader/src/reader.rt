@@ -7,7 +7,6 @@ ghost use Rattle.dfg_reader.specs.Written.{AreSpelledIn};
 ghost use Rattle.dfg_reader.specs.Problems.{head_at, problem_at, problem};
 
 use crate::clauses::lists;
-use crate::declarations::Declarations;
 use crate::descriptions::descriptions;
 use crate::fault::InputError;
 use crate::ground_clauses::ReadClauses;
@@ -15,6 +14,7 @@ use crate::marks::{identifier, mark, place, tail, word};
 use crate::problem::Problem;
 use crate::symbols::signature_list;
 use dfg_tokens::{Mark, Token, Word, tokens_of};
+use spl_symbols::Signature;
 use spl_terms::Items;
 use std::alloc::Global;
 
@@ -38,13 +38,13 @@ fn problem(alloc: Global, bytes: &[u8], tokens: &[Token]) -> Result<Problem, Inp
 {
     let rest = head(tokens)?;
     let rest = descriptions(rest)?;
-    let mut symbols = Declarations::new(alloc);
+    let mut symbols = Signature::new(alloc);
     let rest = signature_list(alloc, bytes, &mut symbols, rest)?;
     let mut read = ReadClauses::new(alloc);
     let rest = lists(alloc, bytes, &symbols, &mut read, rest)?;
     mark(Mark::Dot, tail(rest))?;
     Ok(Problem {
-        signature: symbols.into_signature(),
+        signature: symbols,
         entries: read.into_entries(),
         proofs: Items::new(alloc),
         end_at: place(rest),
