@@ -7,3 +7,9 @@ pub mod Ordered
 pub mod Leaves
 pub mod Taken
 pub mod SpelledProblem
+pub mod Steps
+pub mod Lengths
+pub mod InRow
+pub mod WrittenTerms
+pub mod WrittenClauses
+pub mod WrittenProblem

@@ -1,6 +1,8 @@
 //! Whole problems.
 
-ghost use Rattle.std.specs.Prelude.{◌≡◌, ◌<◌, ◌^◌, length, IfOk};
+ghost use Rattle.std.specs.Prelude.{◌≡◌, ◌<◌, ◌^◌, length, Ok, IfOk};
+ghost use Rattle.dfg_reader.specs.declared.problem.Problem.{Problem};
+ghost use Rattle.dfg_reader.specs.Grammar.{IsWritten};
 ghost use Rattle.dfg_reader.specs.Reading.{Gives};
 ghost use Rattle.dfg_reader.specs.GroundClauses.{clauses, HasLimits, AreInOrder};
 ghost use Rattle.dfg_reader.specs.Written.{AreSpelledIn};
@@ -62,6 +64,7 @@ fn problem(alloc: Global, bytes: &[u8], tokens: &[Token]) -> Result<Problem, Inp
 pub fn read_problem(alloc: Global, bytes: &[u8]) -> Result<Problem, InputError>
     requires { length bytes.now < 2 ^ 32 }
     ensures exact { Gives (λ p. p) result (problem bytes.now) }
+    ensures every { (p : Problem) → IsWritten bytes.now p → Gives (λ q. q) result (Ok p) }
     ensures limits { IfOk result (λ p. HasLimits p.entries) }
     ensures ordered { IfOk result (λ p. AreInOrder (clauses p.entries)) }
     ensures spelled { IfOk result (λ p. AreSpelledIn bytes.now p.signature p.entries) }

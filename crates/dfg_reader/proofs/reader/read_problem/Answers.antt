@@ -1,7 +1,11 @@
 use Rattle.std.proofs.Common.{◌∙◌}
 use Rattle.dfg_reader.proofs.Ordered.{in_order-read}
 use Rattle.dfg_reader.proofs.SpelledProblem.{spelled-read}
+use Rattle.dfg_reader.proofs.WrittenProblem.{every-read}
 use Rattle.dfg_reader.proofs.reader.read_problem.Goals as goal
+
+pub returns-clause-every : goal.returns-clause-every
+returns-clause-every c = every-read c.args.bytes.now c.as_slice.result.now c.problem.result (c.as_slice.ensures.value ∙ c.in_ok-tokens.ensures.exact) c.problem.ensures.given
 
 pub returns-clause-ordered : goal.returns-clause-ordered
 returns-clause-ordered c = in_order-read c.args.bytes.now c.as_slice.result.now c.problem.result (c.as_slice.ensures.value ∙ c.in_ok-tokens.ensures.exact) c.problem.ensures.given
