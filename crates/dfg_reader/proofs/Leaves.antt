@@ -134,7 +134,7 @@ open_leaves ts rest e =
       | inr h ↦ mark_leaves OpenParenthesis ts rest h.1
     ]
 
-symbol_leaves : (bytes : List ℕ) (kind : Kind) (symbols : List Declared) (ts : List Token) (y : List Declared × List Token) → symbol_at bytes kind symbols ts ≡ Ok y → Leaves ts y.1
+pub symbol_leaves : (bytes : List ℕ) (kind : Kind) (symbols : List Declared) (ts : List Token) (y : List Declared × List Token) → symbol_at bytes kind symbols ts ≡ Ok y → Leaves ts y.1
 unfolding symbol_at
 symbol_leaves bytes kind symbols ts y e =
     let a = bind_ok (open_entry ts) _ y e in
@@ -162,7 +162,7 @@ symbols_leave bytes kind symbols ts y e =
     let l3 = leaves_then ts c.0 d.0 l2 (mark_leaves Dot c.0 d.0 d.1) in
     subst (λ (q : List Declared × List Token). Leaves ts q.1) (ok_is (b.0.0, d.0) y d.2) l3
 
-symbol_item_leaves : (bytes : List ℕ) (symbols : List Declared) (ts : List Token) (y : List Declared × List Token) → symbol_item_at bytes symbols ts ≡ Ok y → Leaves ts y.1
+pub symbol_item_leaves : (bytes : List ℕ) (symbols : List Declared) (ts : List Token) (y : List Declared × List Token) → symbol_item_at bytes symbols ts ≡ Ok y → Leaves ts y.1
 unfolding symbol_item_at
 symbol_item_leaves bytes symbols ts y e =
     elim (chosen (is_refused_item ts) (refuse OutsideProfile ts) _ (Ok y) e) [

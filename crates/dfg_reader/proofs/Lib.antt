@@ -13,3 +13,7 @@ pub mod InRow
 pub mod WrittenTerms
 pub mod WrittenClauses
 pub mod WrittenProblem
+pub mod Stands
+pub mod ClausesStand
+pub mod ProblemStands
+pub mod OfSignature

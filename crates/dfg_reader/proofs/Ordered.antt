@@ -35,6 +35,7 @@ use Rattle.dfg_reader.specs.Terms.{TermReader, symbol_named, counted, too_deep, 
 use Rattle.dfg_reader.specs.GroundClauses.{is_true_literal, negated_part, with_negated, with_layer, with_literal, no_literals, literals, literals_in, clause_of_literals, role_clauses, entry_clauses, clauses, AreInOrder}
 use Rattle.dfg_reader.specs.Clauses.{unsigned_at, literal_at, literals_at, body_at, within_limits, label_at, clause_at, clauses_head_at, is_refused_list, list_at}
 use Rattle.dfg_reader.specs.Problems.{descriptions_at, head_at, problem_at, problem}
+use Rattle.dfg_reader.proofs.Taken.{deep_not}
 use Rattle.dfg_reader.proofs.Kept.{bind_ok, chosen, ok_is, refused_not, fault_not, items_keep, listed_keep, all-push, each_read}
 
 -- ---- terms without variables stay as they are
@@ -42,12 +43,6 @@ use Rattle.dfg_reader.proofs.Kept.{bind_ok, chosen, ok_is, refused_not, fault_no
 all_mapped : {X : Type 0} (f : X → X) (xs : List X) → AllByRecursion (λ x. f x ≡ x) xs → map f xs ≡ xs
 all_mapped f [] all = refl
 all_mapped f (x ∷ xs) all = λ i. all.0 i ∷ all_mapped f xs all.1 i
-
-deep_not : (ts : List Token) (y : Term × List Token) → too_deep ts ≡ Ok y → ⊥
-unfolding too_deep
-deep_not ts y e =
-    let a = bind_ok (name_at ts) (λ name. fault name.0.at (LimitReached limits.Depth)) y e in
-    fault_not a.0.0.at (LimitReached limits.Depth) y a.2
 
 module _ (h : ℕ → Term) where
   abbrev StaysTerm : Term → Type 0

@@ -188,7 +188,7 @@ fitting_some b at (Some g) f e =
       | inr h ↦ absurd (fault_not at Undeclared f h.1)
     ]
 
-spelled_is : (bytes : List ℕ) (t : Token) (name : List ℕ) → spelled_at bytes t ≡ Ok name → token_bytes bytes t ≡ name
+pub spelled_is : (bytes : List ℕ) (t : Token) (name : List ℕ) → spelled_at bytes t ≡ Ok name → token_bytes bytes t ≡ name
 unfolding spelled_at bytes_of
 spelled_is bytes t name e =
     elim (chosen (is_utf8 (token_bytes bytes t)) (Ok (token_bytes bytes t)) (fault t.at Unexpected) (Ok name) e) [
@@ -257,7 +257,7 @@ application_takes bytes symbols in_term read w law ts y e =
     let all = takes_then bytes ts b.0.1 g.0.1 (name_of symbols c.0.symbol.number ∷ []) (in_parentheses (map w g.0.0)) name (arguments_takes bytes read w law b.0.1 g.0 g.1) in
     subst (λ (q : Symbol × List Term × List Token). Takes bytes ts (name_of symbols q.0.number ∷ in_parentheses (map w q.1)) q.2) (ok_is (c.0.symbol, g.0.0, g.0.1) y k.2) all
 
-deep_not : (ts : List Token) (y : Term × List Token) → too_deep ts ≡ Ok y → ⊥
+pub deep_not : (ts : List Token) (y : Term × List Token) → too_deep ts ≡ Ok y → ⊥
 unfolding too_deep
 deep_not ts y e =
     let a = bind_ok (name_at ts) (λ name. fault name.0.at (LimitReached limits.Depth)) y e in

@@ -6,3 +6,4 @@ pub mod Clauses
 pub mod Problems
 pub mod Written
 pub mod Grammar
+pub mod OfSignature
