@@ -1,7 +1,6 @@
 -- What is read as a term, an atom, a literal or a clause is written so.
-use Rattle.std.proofs.Common.{◌≡◌, ◌==◌, ℕ, zero, suc, ◌-◌, inl, inr, Bool, true, false, cond, ◌||◌, List, [], ◌∷◌, ◌++◌, length, fold, slice_get, Option, Some, None, option_map, Result, Ok, refl, sym, ap, subst, ◌∙◌}
+use Rattle.std.proofs.Common.{◌≡◌, ◌==◌, ℕ, zero, suc, ◌-◌, inl, inr, Bool, true, false, ◌||◌, List, [], ◌∷◌, ◌++◌, length, slice_get, Option, Some, None, option_map, Result, Ok, refl, sym, ap, subst, ◌∙◌}
 use Rattle.std.proofs.lemmas.Bool.{eqb-true}
-use Rattle.std.proofs.lemmas.List.{append-nil}
 use Rattle.spl_terms.specs.declared.term.Symbol.{Symbol}
 use Rattle.spl_terms.specs.declared.term.Term.{Term, App}
 use Rattle.spl_terms.specs.declared.atom.Atom.{Atom}
@@ -12,7 +11,7 @@ use Rattle.dfg_tokens.specs.declared.piece.Mark.TheVariants.{OpenParenthesis, Cl
 use Rattle.dfg_tokens.specs.declared.token.Token.{Token}
 use Rattle.dfg_tokens.specs.Tokens.{token_bytes}
 use Rattle.dfg_reader.specs.declared.fault.ReadFault.{ReadFault}
-use Rattle.dfg_reader.specs.declared.fault.FaultKind.TheVariants.{Unexpected, Undeclared, Arity, OutsideProfile}
+use Rattle.dfg_reader.specs.declared.fault.FaultKind.TheVariants.{Unexpected, Undeclared, OutsideProfile}
 use Rattle.dfg_reader.specs.declared.formula.Formula.{Formula, True, False, Not, Or}
 use Rattle.dfg_reader.specs.declared.formula.Formula as formulas
 use Rattle.dfg_reader.specs.declared.problem.Role.TheVariants as roles
@@ -22,7 +21,7 @@ use Rattle.dfg_reader.specs.Reading.{◌>>=◌, place, tail, refuse, fault, next
 use Rattle.dfg_reader.specs.Symbols.{with_arity, lookup}
 use Rattle.dfg_reader.specs.Terms.{TermReader, fits, fitting, symbol_named, counted, terms_at, arguments_at, application_at, term_at, atom_at}
 use Rattle.dfg_reader.specs.Clauses.{unsigned_at, literal_at, literals_at, body_at, within_limits, label_at, clause_at, origin_at, form_at, clauses_head_at, is_refused_list, list_at}
-use Rattle.dfg_reader.specs.Grammar.{Phrase, ◌⨾◌, mark, word, separated, enclosed, arguments, IsSymbol, application, term, atom, unsigned, negation, literal, body, label, clause, origin, clause_list}
+use Rattle.dfg_reader.specs.Grammar.{Phrase, word, separated, enclosed, arguments, IsSymbol, application, term, atom, unsigned, literal, body, label, clause, origin, clause_list}
 use Rattle.dfg_reader.proofs.Kept.{bind_ok, chosen, ok_is, refused_not, fault_not}
 use Rattle.dfg_reader.proofs.Taken.{spelled_is, deep_not}
 use Rattle.dfg_reader.proofs.Names.{found_declared}

@@ -1,11 +1,11 @@
 -- Several phrases in a row are read, each onto the state that the one before left.
-use Rattle.std.proofs.Common.{◌≡◌, ℕ, zero, suc, ◌≤◌, ◌<◌, Bool, true, false, List, [], ◌∷◌, ◌++◌, length, fold, Ok, refl, sym, ap, subst, ◌∙◌, append_assoc, arith}
+use Rattle.std.proofs.Common.{◌≡◌, ℕ, zero, suc, ◌≤◌, ◌<◌, true, false, List, [], ◌∷◌, ◌++◌, length, fold, Ok, refl, sym, ap, subst, ◌∙◌, append_assoc, arith}
 use Rattle.std.proofs.lemmas.List.{append-nil}
 use Rattle.dfg_tokens.specs.declared.word.Word.{Word}
 use Rattle.dfg_tokens.specs.declared.word.Word.TheVariants as words
 use Rattle.dfg_tokens.specs.declared.piece.Mark.TheVariants.{OpenParenthesis, Comma, Dot}
 use Rattle.dfg_tokens.specs.declared.token.Token.{Token}
-use Rattle.dfg_reader.specs.Reading.{◌>>=◌, Reader, tail, next_mark, next_word, mark_at, commas, items, listed}
+use Rattle.dfg_reader.specs.Reading.{Reader, next_mark, next_word, mark_at, commas, items, listed}
 use Rattle.dfg_reader.specs.Grammar.{Phrase, ◌⨾◌, mark, each, each_behind_comma, separated, list_end, joined}
 use Rattle.dfg_reader.proofs.Lengths.{Takes}
 use Rattle.dfg_reader.proofs.Steps.{then_ok, when_true, when_false, token_shorter, token_tail, mark_next, other_mark, mark_read, word_next}

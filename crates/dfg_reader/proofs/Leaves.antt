@@ -1,5 +1,5 @@
 -- Reading takes tokens from the front and leaves the others.
-use Rattle.std.proofs.Common.{◌≡◌, ℕ, zero, suc, ◌⊎◌, inl, inr, Bool, true, false, cond, List, [], ◌∷◌, ◌++◌, length, Option, Some, None, Result, Ok, Err, refl, sym, ap, subst, ◌∙◌, append_assoc}
+use Rattle.std.proofs.Common.{◌≡◌, ℕ, zero, suc, inl, inr, Bool, cond, List, [], ◌∷◌, ◌++◌, length, Option, Some, None, Ok, refl, sym, ap, subst, ◌∙◌, append_assoc}
 use Rattle.std.specs.Bool.{⊤}
 use Rattle.dfg_tokens.specs.declared.word.Word.{Word}
 use Rattle.dfg_tokens.specs.declared.word.Word.TheVariants as words
@@ -10,7 +10,6 @@ use Rattle.dfg_tokens.specs.declared.token.Token.{Token}
 use Rattle.spl_terms.specs.declared.term.Kind.{Kind}
 use Rattle.spl_terms.specs.declared.term.Kind.TheVariants.{Function, Predicate}
 use Rattle.spl_symbols.specs.Symbols.{Declared}
-use Rattle.dfg_reader.specs.declared.fault.ReadFault.{ReadFault}
 use Rattle.dfg_reader.specs.declared.fault.FaultKind.TheVariants.{Unexpected, OutsideProfile}
 use Rattle.dfg_reader.specs.Reading.{◌>>=◌, Reader, tail, refuse, next_mark, next_word, next_name, kind_is_identifier, kind_is_name, kind_is_text, taken, mark_at, word_at, identifier_at, name_at, text_at, bytes_of, commas, items, listed}
 use Rattle.dfg_reader.specs.Symbols.{new_name_at, arity_of, arity_if, arity_at, small_arity, open_entry, symbol_at, symbols_at, is_refused_item, symbol_item_at, signature_at}

@@ -1,5 +1,5 @@
 -- A phrase takes tokens from the front.
-use Rattle.std.proofs.Common.{◌≡◌, ℕ, zero, suc, ◌-◌, ◌≤◌, ◌<◌, ◌⊎◌, inl, inr, Bool, List, [], ◌∷◌, length, ap, arith}
+use Rattle.std.proofs.Common.{ℕ, zero, suc, ◌-◌, ◌≤◌, ◌<◌, inl, inr, Bool, List, [], ◌∷◌, length, ap, arith}
 use Rattle.spl_terms.specs.declared.term.Kind.{Kind}
 use Rattle.spl_terms.specs.declared.term.Symbol.{Symbol}
 use Rattle.spl_terms.specs.declared.term.Term.{Term}
@@ -10,7 +10,7 @@ use Rattle.dfg_tokens.specs.declared.piece.Mark.{Mark}
 use Rattle.dfg_tokens.specs.declared.token.Token.{Token}
 use Rattle.dfg_reader.specs.declared.formula.Formula.{Formula}
 use Rattle.dfg_reader.specs.declared.problem.Entry.{Entry}
-use Rattle.dfg_reader.specs.Grammar.{Phrase, ◌⨾◌, nothing, either, token, mark, word, each, each_behind_comma, separated, enclosed, arguments, symbol, application, term, atom, unsigned, negation, literal, disjunction, body, label, identifier, text, list_end, origin, clause, clause_list, declaration, declarations, symbol_item, description}
+use Rattle.dfg_reader.specs.Grammar.{Phrase, ◌⨾◌, nothing, either, token, mark, word, each, each_behind_comma, separated, enclosed, arguments, symbol, application, term, atom, unsigned, negation, literal, body, label, identifier, text, list_end, origin, clause, clause_list, declaration, declarations, symbol_item, description}
 use Rattle.dfg_reader.proofs.Steps.{token_shorter}
 
 -- no token is added

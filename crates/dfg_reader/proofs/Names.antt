@@ -9,7 +9,7 @@ use Rattle.std.specs.Str.{bytes_eq}
 use Rattle.spl_terms.specs.declared.term.Symbol.{Symbol}
 use Rattle.spl_symbols.specs.Symbols.{Declared, found, HasOwnNames}
 use Rattle.dfg_reader.specs.declared.symbols.Found.{Found}
-use Rattle.dfg_reader.specs.Symbols.{with_arity, lookup}
+use Rattle.dfg_reader.specs.Symbols.{with_arity}
 
 -- a symbol that is found is one of the signature
 pub found_within : (name : List ℕ) (ds : List Declared) (s : Symbol) → found name ds ≡ Some s → s.number < length ds

@@ -1,8 +1,8 @@
 -- The symbols of what is written are those of the signature.
-use Rattle.std.proofs.Common.{◌≡◌, ◌==◌, eq-eqb, ℕ, zero, suc, ◌-◌, inl, inr, Bool, true, false, ◌&&◌, List, [], ◌∷◌, ◌++◌, length, map, slice_get, Some, Result, Ok, Err, IfOk, refl, sym, ap, subst, ◌∙◌}
+use Rattle.std.proofs.Common.{◌≡◌, ◌==◌, eq-eqb, ℕ, zero, suc, ◌-◌, inl, inr, Bool, true, false, ◌&&◌, List, [], ◌∷◌, ◌++◌, length, slice_get, Result, Ok, Err, IfOk, refl, sym, ap, subst, ◌∙◌}
 use Rattle.std.proofs.lemmas.List.{length-map}
 use Rattle.std.proofs.lemmas.List.Folds.{list_all-map}
-use Rattle.std.specs.List.{list_all, flat_map, AllByRecursion}
+use Rattle.std.specs.List.{list_all}
 use Rattle.spl_terms.specs.declared.term.Kind.{Kind}
 use Rattle.spl_terms.specs.declared.term.Kind.TheVariants.{Function, Predicate, Sort}
 use Rattle.spl_terms.specs.declared.term.Symbol.{Symbol}
@@ -13,8 +13,7 @@ use Rattle.spl_terms.proofs.TermLemmas.{fold-App}
 use Rattle.spl_symbols.specs.Symbols.{Declared}
 use Rattle.dfg_tokens.specs.declared.token.Token.{Token}
 use Rattle.dfg_reader.specs.declared.fault.InputError.{InputError}
-use Rattle.dfg_reader.specs.declared.formula.Formula.{Formula, True, False, Not, Or, Formula-F, fold-Formula}
-use Rattle.dfg_reader.specs.declared.formula.Formula as formulas
+use Rattle.dfg_reader.specs.declared.formula.Formula.{Formula}
 use Rattle.dfg_reader.specs.declared.formula.Formula.TheOpen as layer
 use Rattle.dfg_reader.specs.declared.formula.Formula.TheViews.{rolls-True, rolls-False, rolls-Atom, rolls-Not, rolls-Or}
 use Rattle.dfg_reader.specs.declared.formula.Formula.TheFolds.{fold-roll-Formula}
@@ -22,7 +21,7 @@ use Rattle.dfg_reader.specs.declared.problem.Entry.{Entry}
 use Rattle.dfg_reader.specs.declared.problem.Problem.{Problem}
 use Rattle.dfg_reader.specs.Terms.{fits}
 use Rattle.dfg_reader.specs.OfSignature.{declares, is_declared, term_of_step, is_term_of, is_atom_of, formula_of_step, is_formula_of, AreOfSignature}
-use Rattle.dfg_reader.specs.Grammar.{Phrase, each, each_behind_comma, separated, arguments, IsSymbol, application, term, atom, unsigned, negation, literal, disjunction, body, clause, clause_list, clause_lists, joined, IsWritten}
+use Rattle.dfg_reader.specs.Grammar.{Phrase, each, each_behind_comma, separated, arguments, IsSymbol, application, term, atom, unsigned, literal, body, clause, clause_list, joined, IsWritten}
 
 and_true : (a b : Bool) → a ≡ true → b ≡ true → (a && b) ≡ true
 and_true a b e h = rw (e, h) refl

@@ -20,8 +20,7 @@ use Rattle.dfg_tokens.specs.declared.word.Word.TheVariants as words
 use Rattle.dfg_tokens.specs.declared.token.Token.{Token}
 use Rattle.dfg_tokens.specs.Tokens.{tokens}
 use Rattle.dfg_reader.specs.declared.fault.InputError.{InputError}
-use Rattle.dfg_reader.specs.declared.fault.FaultKind.TheVariants.{OutsideProfile, LimitReached}
-use Rattle.dfg_reader.specs.declared.fault.Limit.TheVariants as limits
+use Rattle.dfg_reader.specs.declared.fault.FaultKind.TheVariants.{OutsideProfile}
 use Rattle.dfg_reader.specs.declared.formula.Formula.{Formula, True, False, Not, Or, Formula-F, out-Formula}
 use Rattle.dfg_reader.specs.declared.formula.Formula as formulas
 use Rattle.dfg_reader.specs.declared.formula.Formula.TheOpen as layer
@@ -29,14 +28,14 @@ use Rattle.dfg_reader.specs.declared.formula.Formula.TheViews.{outs-True, outs-F
 use Rattle.dfg_reader.specs.declared.problem.Role.TheVariants as roles
 use Rattle.dfg_reader.specs.declared.problem.Entry.{Entry}
 use Rattle.dfg_reader.specs.declared.problem.Problem.{Problem}
-use Rattle.dfg_reader.specs.Reading.{◌>>=◌, Gives, place, tail, refuse, fault, next_mark, next_word, mark_at, word_at, name_at, items, listed}
+use Rattle.dfg_reader.specs.Reading.{◌>>=◌, Gives, place, tail, refuse, next_mark, next_word, mark_at, word_at, name_at, items, listed}
 use Rattle.dfg_reader.specs.Symbols.{signature_at}
-use Rattle.dfg_reader.specs.Terms.{TermReader, symbol_named, counted, too_deep, terms_at, arguments_at, application_at, term_at, atom_at}
+use Rattle.dfg_reader.specs.Terms.{TermReader, symbol_named, counted, terms_at, arguments_at, application_at, term_at, atom_at}
 use Rattle.dfg_reader.specs.GroundClauses.{is_true_literal, negated_part, with_negated, with_layer, with_literal, no_literals, literals, literals_in, clause_of_literals, role_clauses, entry_clauses, clauses, AreInOrder}
 use Rattle.dfg_reader.specs.Clauses.{unsigned_at, literal_at, literals_at, body_at, within_limits, label_at, clause_at, clauses_head_at, is_refused_list, list_at}
 use Rattle.dfg_reader.specs.Problems.{descriptions_at, head_at, problem_at, problem}
 use Rattle.dfg_reader.proofs.Taken.{deep_not}
-use Rattle.dfg_reader.proofs.Kept.{bind_ok, chosen, ok_is, refused_not, fault_not, items_keep, listed_keep, all-push, each_read}
+use Rattle.dfg_reader.proofs.Kept.{bind_ok, chosen, ok_is, refused_not, items_keep, listed_keep, all-push, each_read}
 
 -- ---- terms without variables stay as they are
 

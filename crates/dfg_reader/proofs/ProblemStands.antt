@@ -1,9 +1,7 @@
 -- What is read as a problem is written so.
-use Rattle.std.proofs.Common.{◌≡◌, ℕ, zero, suc, ◌+◌, ◌≤◌, ◌<◌, ◌⊎◌, inl, inr, Bool, true, false, cond, ◌||◌, nat_le, nat_lt, List, [], ◌∷◌, ◌++◌, length, fold, Option, Some, None, Result, Ok, Err, IfOk, refl, sym, ap, subst, ◌∙◌, length-append, arith}
+use Rattle.std.proofs.Common.{◌≡◌, ℕ, ◌≤◌, ◌<◌, ◌⊎◌, inl, inr, Bool, true, false, ◌||◌, nat_le, nat_lt, List, [], ◌∷◌, ◌++◌, length, Option, Some, None, Result, Ok, Err, IfOk, refl, sym, ap, subst, ◌∙◌, length-append, arith}
 use Rattle.std.proofs.lemmas.Bool.Decides.{nat_tests}
 use Rattle.std.specs.Bool.{⊤}
-use Rattle.std.specs.List.{AllByRecursion}
-use Rattle.std.specs.Str.{is_utf8}
 use Rattle.spl_terms.specs.declared.term.Kind.{Kind}
 use Rattle.spl_terms.specs.declared.term.Kind.TheVariants.{Function, Predicate}
 use Rattle.spl_terms.specs.declared.term.Symbol.{Symbol}
@@ -26,10 +24,10 @@ use Rattle.dfg_reader.specs.Symbols.{free_if, new_name_at, arity_of, arity_if, a
 use Rattle.dfg_reader.specs.GroundClauses.{formula_clauses, clauses, are_within_limits, HasLimits}
 use Rattle.dfg_reader.specs.Clauses.{body_at, within_limits, label_at, clause_at, clauses_head_at, is_refused_list, list_at}
 use Rattle.dfg_reader.specs.Problems.{is_text_item, is_status, status_at, description_at, descriptions_at, head_at, problem_at, problem}
-use Rattle.dfg_reader.specs.Grammar.{◌⨾◌, mark, word, token, any_word, enclosed, joined, IsNumberOf, declaration, declarations, symbol_item, signature, is_description_word, is_status_word, description, descriptions, head, clause_list, IsSignature, IsWritten}
+use Rattle.dfg_reader.specs.Grammar.{mark, word, token, any_word, IsNumberOf, declaration, declarations, symbol_item, signature, is_description_word, is_status_word, description, descriptions, head, clause_list, IsSignature, IsWritten}
 use Rattle.dfg_reader.proofs.Kept.{bind_ok, chosen, ok_is, refused_not, fault_not, listed_keep, items_keep, all-push}
 use Rattle.dfg_reader.proofs.Limits.{limits-push, none_within, clauses-none}
-use Rattle.dfg_reader.proofs.Leaves.{Leaves, leaves_all, leaves_then, leaves_tail, commas_hold, listed_hold, mark_left, symbol_leaves, head_leaves, descriptions_leave}
+use Rattle.dfg_reader.proofs.Leaves.{Leaves, leaves_then, leaves_tail, commas_hold, listed_hold, mark_left, symbol_leaves, head_leaves, descriptions_leave}
 use Rattle.dfg_reader.proofs.Taken.{spelled_is, all_right}
 use Rattle.dfg_reader.proofs.Names.{one_more_name}
 use Rattle.dfg_reader.proofs.InRow.{grown, lone, whole, fold_lone, fold_whole}

@@ -1,12 +1,11 @@
 -- Each clause of a problem is spelled by the bytes, from its place on.
-use Rattle.std.proofs.Common.{◌≡◌, ℕ, zero, suc, ◌⊎◌, inl, inr, Bool, true, false, cond, List, [], ◌∷◌, ◌++◌, length, map, Result, Ok, Err, IfOk, refl, sym, ap, subst, ◌∙◌, append_assoc}
-use Rattle.std.specs.List.{AllByRecursion}
+use Rattle.std.proofs.Common.{◌≡◌, ℕ, inl, inr, List, [], ◌∷◌, ◌++◌, length, Result, Ok, Err, IfOk, sym, ap, subst, ◌∙◌}
 use Rattle.spl_symbols.specs.Symbols.{Declared}
 use Rattle.dfg_tokens.specs.declared.word.Word.TheVariants as words
 use Rattle.dfg_tokens.specs.declared.piece.Mark.TheVariants.{OpenParenthesis, CloseParenthesis, Dot}
 use Rattle.dfg_tokens.specs.declared.token.Token.{Token}
 use Rattle.dfg_tokens.specs.Words.{spelling}
-use Rattle.dfg_tokens.specs.Tokens.{token_bytes, tokens, AreTokensOf}
+use Rattle.dfg_tokens.specs.Tokens.{tokens, AreTokensOf}
 use Rattle.dfg_tokens.proofs.OwnBytes.{own_tokens}
 use Rattle.dfg_reader.specs.declared.fault.InputError.{InputError}
 use Rattle.dfg_reader.specs.declared.fault.FaultKind.TheVariants.{OutsideProfile}
@@ -14,13 +13,13 @@ use Rattle.dfg_reader.specs.declared.formula.Formula.{Formula, out-Formula}
 use Rattle.dfg_reader.specs.declared.problem.Role.TheVariants as roles
 use Rattle.dfg_reader.specs.declared.problem.Entry.{Entry}
 use Rattle.dfg_reader.specs.declared.problem.Problem.{Problem}
-use Rattle.dfg_reader.specs.Reading.{◌>>=◌, Gives, place, tail, refuse, mark_at, word_at, items, listed}
+use Rattle.dfg_reader.specs.Reading.{Gives, place, tail, refuse, mark_at, word_at, items, listed}
 use Rattle.dfg_reader.specs.Symbols.{signature_at}
 use Rattle.dfg_reader.specs.Clauses.{body_at, within_limits, label_at, clause_at, is_refused_list, clauses_head_at, list_at}
 use Rattle.dfg_reader.specs.Problems.{descriptions_at, head_at, problem_at, problem}
-use Rattle.dfg_reader.specs.Written.{Spelling, sign, written_body, written_clause, IsSpelledIn, AreSpelledIn}
+use Rattle.dfg_reader.specs.Written.{sign, written_body, written_clause, IsSpelledIn, AreSpelledIn}
 use Rattle.dfg_reader.proofs.Kept.{bind_ok, chosen, ok_is, refused_not, all-push}
-use Rattle.dfg_reader.proofs.Leaves.{Leaves, leaves_all, leaves_then, leaves_tail, items_hold, listed_hold, mark_left, label_leaves, clauses_head_leaves, signature_leaves, descriptions_leave, head_leaves}
+use Rattle.dfg_reader.proofs.Leaves.{Leaves, leaves_then, leaves_tail, items_hold, listed_hold, mark_left, label_leaves, clauses_head_leaves, signature_leaves, descriptions_leave, head_leaves}
 use Rattle.dfg_reader.proofs.Taken.{Takes, takes_then, all_left, all_right, mark_takes, word_takes, body_takes}
 
 module _ (bytes : List ℕ) (symbols : List Declared) where

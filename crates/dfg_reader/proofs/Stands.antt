@@ -1,7 +1,6 @@
 -- One step of reading that succeeds: the phrase of one token stands there.
-use Rattle.std.proofs.Common.{◌≡◌, ◌==◌, ℕ, zero, suc, ◌⊎◌, inl, inr, Bool, true, false, cond, List, [], ◌∷◌, length, fold, Result, Ok, refl, sym, ap, subst, ◌∙◌}
+use Rattle.std.proofs.Common.{◌≡◌, ◌==◌, ℕ, zero, suc, inl, inr, Bool, true, false, cond, List, [], ◌∷◌, length, fold, Ok, refl, ap, subst, ◌∙◌}
 use Rattle.std.proofs.lemmas.Slice.Eq.{bytes_eq-Decides}
-use Rattle.std.specs.Str.{bytes_eq}
 use Rattle.dfg_tokens.specs.declared.word.Word.{Word}
 use Rattle.dfg_tokens.specs.declared.word.Word.TheVariants as words
 use Rattle.dfg_tokens.specs.declared.piece.Mark.{Mark}
@@ -11,10 +10,9 @@ use Rattle.dfg_tokens.specs.declared.piece.TokenKind.TheVariants as kinds
 use Rattle.dfg_tokens.specs.declared.token.Token.{Token}
 use Rattle.dfg_tokens.specs.Words.{spelling}
 use Rattle.dfg_tokens.specs.Tokens.{byte_of}
-use Rattle.dfg_reader.specs.declared.fault.ReadFault.{ReadFault}
 use Rattle.dfg_reader.specs.declared.fault.FaultKind.TheVariants.{Unexpected}
 use Rattle.dfg_reader.specs.Reading.{◌>>=◌, Reader, tail, refuse, is_reserved, kind_is_mark, kind_is_word, kind_is_name, kind_is_identifier, kind_is_text, next_is, next_mark, next_word, mark_at, word_at, taken, identifier_at, name_at, text_at, commas, items, listed}
-use Rattle.dfg_reader.specs.Grammar.{Phrase, ◌⨾◌, token, mark, word, text, each, each_behind_comma, separated, list_end}
+use Rattle.dfg_reader.specs.Grammar.{Phrase, ◌⨾◌, token, mark, word, text, each, separated, list_end}
 use Rattle.dfg_reader.proofs.Kept.{bind_ok, chosen, done, ok_is, refused_not}
 use Rattle.dfg_reader.proofs.Steps.{same_word}
 

@@ -1,5 +1,5 @@
 -- One step of reading: a phrase of one token stands there.
-use Rattle.std.proofs.Common.{◌≡◌, ◌==◌, eq-eqb, ℕ, ◌+◌, ◌≤◌, ◌<◌, ◌⊎◌, inl, inr, Bool, true, false, cond, List, [], ◌∷◌, length, Result, Ok, refl, sym, ap, ◌∙◌, arith}
+use Rattle.std.proofs.Common.{◌≡◌, ◌==◌, eq-eqb, ◌<◌, ◌⊎◌, inl, inr, Bool, true, false, cond, List, ◌∷◌, length, Result, Ok, refl, sym, ap, ◌∙◌, arith}
 use Rattle.std.specs.Str.{bytes_eq}
 use Rattle.std.proofs.lemmas.Slice.Eq.{bytes_eq-Decides}
 use Rattle.dfg_tokens.specs.declared.word.Word.{Word}
@@ -9,11 +9,11 @@ use Rattle.dfg_tokens.specs.declared.piece.TokenKind.{TokenKind}
 use Rattle.dfg_tokens.specs.declared.piece.TokenKind.TheVariants as kinds
 use Rattle.dfg_tokens.specs.declared.token.Token.{Token}
 use Rattle.dfg_tokens.specs.Words.{spelling, word_of}
-use Rattle.dfg_tokens.specs.Tokens.{byte_of, token_bytes}
+use Rattle.dfg_tokens.specs.Tokens.{byte_of}
 use Rattle.dfg_reader.specs.declared.fault.ReadFault.{ReadFault}
 use Rattle.dfg_reader.specs.declared.fault.FaultKind.TheVariants.{Unexpected}
 use Rattle.dfg_reader.specs.Reading.{◌>>=◌, tail, refuse, is_reserved, kind_is_mark, kind_is_word, kind_is_name, kind_is_identifier, kind_is_text, next_is, next_mark, next_word, next_name, mark_at, word_at, taken, identifier_at, name_at, text_at}
-use Rattle.dfg_reader.specs.Grammar.{Phrase, token, mark, word, identifier, text, IsNameOf}
+use Rattle.dfg_reader.specs.Grammar.{token, mark, word, text}
 use Rattle.dfg_reader.proofs.Kept.{done}
 
 -- ---- how reading goes on

@@ -1,28 +1,27 @@
 -- What is read is spelled by the tokens that are taken for it.
-use Rattle.std.proofs.Common.{◌≡◌, ◌==◌, ℕ, zero, suc, ◌+◌, ◌-◌, ◌≤◌, ◌<◌, ◌⊎◌, inl, inr, Bool, true, false, cond, List, [], ◌∷◌, ◌++◌, length, map, get_or, slice_get, Option, Some, None, option_map, option_and_then, Result, Ok, Err, IfOk, refl, sym, ap, subst, ◌∙◌, append_assoc, arith}
+use Rattle.std.proofs.Common.{◌≡◌, ℕ, zero, suc, ◌-◌, ◌⊎◌, inl, inr, Bool, true, false, cond, List, [], ◌∷◌, ◌++◌, length, map, get_or, slice_get, Option, Some, None, option_map, option_and_then, Result, Ok, refl, sym, ap, subst, ◌∙◌, append_assoc}
 use Rattle.std.proofs.lemmas.List.{map-append}
 use Rattle.std.proofs.lemmas.List.Quantifiers.{position-Some}
 use Rattle.std.proofs.lemmas.Bool.{eqb-true}
 use Rattle.std.proofs.lemmas.Slice.Eq.{bytes_eq-Decides}
-use Rattle.std.specs.List.{position, AllByRecursion}
+use Rattle.std.specs.List.{position}
 use Rattle.std.specs.Str.{bytes_eq, is_utf8}
 use Rattle.spl_terms.specs.declared.term.Symbol.{Symbol}
 use Rattle.spl_terms.specs.declared.term.Term.{Term, App}
 use Rattle.spl_terms.specs.declared.atom.Atom.{Atom}
-use Rattle.spl_terms.specs.declared.atom.Atom.TheVariants.{Holds, Equal}
+use Rattle.spl_terms.specs.declared.atom.Atom.TheVariants.{Holds}
 use Rattle.spl_terms.proofs.TermLemmas.{fold-App}
 use Rattle.spl_symbols.specs.Symbols.{Declared, found}
 use Rattle.dfg_tokens.specs.declared.word.Word.{Word}
 use Rattle.dfg_tokens.specs.declared.word.Word.TheVariants as words
 use Rattle.dfg_tokens.specs.declared.piece.Mark.{Mark}
-use Rattle.dfg_tokens.specs.declared.piece.Mark.TheVariants.{OpenParenthesis, CloseParenthesis, Comma, Dot}
+use Rattle.dfg_tokens.specs.declared.piece.Mark.TheVariants.{OpenParenthesis, CloseParenthesis, Comma}
 use Rattle.dfg_tokens.specs.declared.piece.TokenKind.{TokenKind}
 use Rattle.dfg_tokens.specs.declared.piece.TokenKind.TheVariants as kinds
 use Rattle.dfg_tokens.specs.declared.token.Token.{Token}
 use Rattle.dfg_tokens.specs.Words.{spelling, first_word, word_of}
-use Rattle.dfg_tokens.specs.Tokens.{byte_of, token_bytes, tokens, IsSpelled, IsTokenOf, AreTokensOf}
+use Rattle.dfg_tokens.specs.Tokens.{byte_of, token_bytes, IsSpelled, IsTokenOf, AreTokensOf}
 use Rattle.dfg_reader.specs.declared.fault.ReadFault.{ReadFault}
-use Rattle.dfg_reader.specs.declared.fault.InputError.{InputError}
 use Rattle.dfg_reader.specs.declared.fault.FaultKind.TheVariants.{Unexpected, Undeclared, OutsideProfile, LimitReached}
 use Rattle.dfg_reader.specs.declared.fault.Limit.TheVariants as limits
 use Rattle.dfg_reader.specs.declared.formula.Formula.{Formula, True, False, Not, Or, Formula-F, out-Formula}

@@ -1,9 +1,9 @@
 -- A clause that is written is read, and so is a list of clauses.
-use Rattle.std.proofs.Common.{◌≡◌, ℕ, ◌+◌, ◌-◌, ◌≤◌, inl, inr, Bool, true, false, cond, ◌&&◌, ◌||◌, nat_le, List, [], ◌∷◌, ◌++◌, length, fold, Ok, refl, sym, ap, subst, ◌∙◌, append_assoc, length-append, arith}
+use Rattle.std.proofs.Common.{◌≡◌, ℕ, ◌+◌, ◌-◌, inl, inr, Bool, true, false, cond, ◌&&◌, ◌||◌, nat_le, List, [], ◌∷◌, ◌++◌, length, Ok, refl, sym, ap, subst, ◌∙◌, length-append, arith}
 use Rattle.std.proofs.lemmas.Bool.Decides.{nat_tests}
 use Rattle.std.proofs.lemmas.List.Concat.{flat_map-append}
 use Rattle.std.proofs.lemmas.List.Folds.{list_all-append}
-use Rattle.std.specs.List.{list_all, flat_map}
+use Rattle.std.specs.List.{list_all}
 use Rattle.std.specs.Str.{bytes_eq}
 use Rattle.spl_terms.specs.declared.atom.Atom.{Atom}
 use Rattle.spl_terms.specs.declared.clause.Clause.{Clause}
@@ -13,14 +13,13 @@ use Rattle.dfg_tokens.specs.declared.word.Word.TheVariants as words
 use Rattle.dfg_tokens.specs.declared.piece.Mark.TheVariants.{OpenParenthesis, CloseParenthesis, Comma, Dot}
 use Rattle.dfg_tokens.specs.declared.token.Token.{Token}
 use Rattle.dfg_tokens.specs.Words.{spelling}
-use Rattle.dfg_reader.specs.declared.formula.Formula.{Formula, True, False, Not, Or}
-use Rattle.dfg_reader.specs.declared.formula.Formula as formulas
+use Rattle.dfg_reader.specs.declared.formula.Formula.{Formula}
 use Rattle.dfg_reader.specs.declared.problem.Role.TheVariants as roles
 use Rattle.dfg_reader.specs.declared.problem.Entry.{Entry}
-use Rattle.dfg_reader.specs.Reading.{◌>>=◌, place, tail, is_reserved, next_mark, next_word, mark_at, word_at, identifier_at, listed}
+use Rattle.dfg_reader.specs.Reading.{place, is_reserved, next_mark, next_word, mark_at, identifier_at}
 use Rattle.dfg_reader.specs.GroundClauses.{formula_clauses, role_clauses, entry_clauses, clauses, is_small, are_within_limits, HasLimits}
-use Rattle.dfg_reader.specs.Clauses.{unsigned_at, literal_at, literals_at, body_at, within_limits, label_at, clause_at, origin_at, form_at, clauses_head_at, is_refused_list, list_at}
-use Rattle.dfg_reader.specs.Grammar.{◌⨾◌, enclosed, mark, word, identifier, atom, unsigned, negation, literal, disjunction, body, label, clause, origin, clause_list, IsSignature}
+use Rattle.dfg_reader.specs.Clauses.{unsigned_at, literal_at, body_at, within_limits, label_at, clause_at, origin_at, form_at, clauses_head_at, is_refused_list, list_at}
+use Rattle.dfg_reader.specs.Grammar.{◌⨾◌, enclosed, mark, word, atom, unsigned, negation, literal, body, label, clause, origin, clause_list, IsSignature}
 use Rattle.dfg_reader.proofs.Limits.{clauses-push}
 use Rattle.dfg_reader.proofs.Steps.{then_ok, when_true, when_false, token_tail, mark_next, other_mark, mark_read, next_word_is, other_word, word_next, word_read, identifier_read, name_no_word}
 use Rattle.dfg_reader.proofs.Lengths.{literal_takes, clause_takes}

@@ -1,5 +1,5 @@
 -- A problem that is written is read.
-use Rattle.std.proofs.Common.{◌≡◌, ℕ, zero, suc, ◌+◌, ◌-◌, ◌≤◌, ◌<◌, inl, inr, Bool, true, false, ◌||◌, nat_le, nat_lt, List, [], ◌∷◌, ◌++◌, length, fold, slice_get, Option, Some, None, Result, Ok, refl, sym, ap, subst, ◌∙◌, append_assoc, length-append, arith}
+use Rattle.std.proofs.Common.{◌≡◌, ℕ, suc, ◌+◌, ◌≤◌, inl, inr, Bool, true, false, ◌||◌, nat_le, nat_lt, List, [], ◌∷◌, ◌++◌, length, fold, slice_get, Some, None, Result, Ok, refl, sym, ap, subst, ◌∙◌, append_assoc, length-append, arith}
 use Rattle.std.proofs.lemmas.Bool.Decides.{nat_tests}
 use Rattle.std.proofs.lemmas.List.{append-nil}
 use Rattle.std.specs.Bool.{⊤}
@@ -17,14 +17,14 @@ use Rattle.dfg_reader.specs.declared.problem.Entry.{Entry}
 use Rattle.dfg_reader.specs.declared.problem.Problem.{Problem}
 use Rattle.dfg_reader.specs.declared.fault.ReadFault.{ReadFault}
 use Rattle.dfg_reader.specs.declared.fault.InputError.{InputError}
-use Rattle.dfg_reader.specs.Reading.{◌>>=◌, Gives, place, tail, next_mark, next_word, next_name, mark_at, word_at, identifier_at, name_at, text_at, bytes_of, spelled_at, commas, items, listed}
-use Rattle.dfg_reader.specs.Symbols.{free_if, new_name_at, arity_of, arity_if, arity_at, small_arity, open_entry, symbol_at, symbols_at, is_refused_item, symbol_item_at, signature_at}
+use Rattle.dfg_reader.specs.Reading.{Gives, tail, next_word, mark_at, bytes_of, items}
+use Rattle.dfg_reader.specs.Symbols.{free_if, new_name_at, arity_if, arity_at, small_arity, open_entry, symbol_at, symbols_at, is_refused_item, symbol_item_at, signature_at}
 use Rattle.dfg_reader.specs.GroundClauses.{HasLimits}
 use Rattle.dfg_reader.specs.Clauses.{list_at}
 use Rattle.dfg_reader.specs.Problems.{is_text_item, is_status, status_at, description_at, descriptions_at, head_at, problem_at, problem}
-use Rattle.dfg_reader.specs.Grammar.{◌⨾◌, mark, word, token, any_word, enclosed, each, joined, IsNameOf, IsNumberOf, declaration, declarations, symbol_item, symbol_list, signature, is_description_word, is_status_word, description, descriptions, head, ending, clause_list, clause_lists, IsSignature, IsWritten}
+use Rattle.dfg_reader.specs.Grammar.{mark, word, token, any_word, each, joined, IsNumberOf, declaration, declarations, symbol_item, signature, is_description_word, is_status_word, description, descriptions, head, ending, clause_list, clause_lists, IsSignature, IsWritten}
 use Rattle.dfg_reader.proofs.Names.{new_name, get_next}
-use Rattle.dfg_reader.proofs.Steps.{then_ok, when_true, when_false, token_tail, mark_next, other_mark, mark_read, mark_no_name, next_word_is, other_word, word_next, word_read, identifier_read, name_read, text_read}
+use Rattle.dfg_reader.proofs.Steps.{then_ok, when_true, when_false, token_tail, other_mark, mark_read, mark_no_name, next_word_is, other_word, word_next, word_read, identifier_read, name_read, text_read}
 use Rattle.dfg_reader.proofs.Lengths.{declaration_takes, symbol_item_takes, description_takes, clause_list_takes}
 use Rattle.dfg_reader.proofs.InRow.{Begins, begins_earlier, grown, lone, whole, fold_lone, fold_whole, Anything, separated_read, items_read, listed_read}
 use Rattle.dfg_reader.proofs.WrittenTerms.{spelled_read, all_at}

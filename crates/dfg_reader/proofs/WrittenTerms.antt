@@ -1,29 +1,22 @@
 -- A term that is written is read, and so are an atom and a literal.
-use Rattle.std.proofs.Common.{◌≡◌, ◌==◌, eq-eqb, ℕ, zero, suc, ◌-◌, ◌≤◌, ◌<◌, inl, inr, Bool, true, false, ◌&&◌, List, [], ◌∷◌, length, slice_get, Option, Some, option_map, Result, Ok, refl, sym, ap, subst, ◌∙◌, nat_le, nat_lt, arith}
+use Rattle.std.proofs.Common.{◌≡◌, eq-eqb, ℕ, zero, suc, ◌-◌, ◌≤◌, ◌<◌, Bool, true, false, ◌&&◌, List, [], ◌∷◌, length, slice_get, Some, option_map, Result, Ok, refl, sym, ap, subst, ◌∙◌, arith}
 use Rattle.std.proofs.lemmas.Bool.Decides.{nat_tests}
 use Rattle.std.proofs.lemmas.Str.{IsUtf8-from_ascii, is_utf8-from_IsUtf8}
-use Rattle.std.specs.List.{list_all, slice_index, AllByRecursion}
-use Rattle.std.specs.Str.{IsAscii, is_utf8, bytes_eq}
+use Rattle.std.specs.List.{list_all, AllByRecursion}
+use Rattle.std.specs.Str.{IsAscii, is_utf8}
 use Rattle.spl_terms.specs.declared.term.Symbol.{Symbol}
-use Rattle.spl_terms.specs.declared.term.Term.{Term, App}
+use Rattle.spl_terms.specs.declared.term.Term.{Term}
 use Rattle.spl_terms.specs.declared.atom.Atom.{Atom}
-use Rattle.spl_terms.specs.declared.atom.Atom.TheVariants.{Holds}
 use Rattle.spl_symbols.specs.Symbols.{Declared, found}
-use Rattle.dfg_tokens.specs.declared.word.Word.{Word}
-use Rattle.dfg_tokens.specs.declared.word.Word.TheVariants as words
 use Rattle.dfg_tokens.specs.declared.piece.Mark.TheVariants.{OpenParenthesis, CloseParenthesis, Comma}
 use Rattle.dfg_tokens.specs.declared.token.Token.{Token}
-use Rattle.dfg_tokens.specs.Words.{spelling}
 use Rattle.dfg_tokens.specs.Tokens.{is_letter, token_bytes, AreLetters}
 use Rattle.dfg_reader.specs.declared.fault.ReadFault.{ReadFault}
-use Rattle.dfg_reader.specs.declared.fault.FaultKind.TheVariants.{Undeclared, OutsideProfile}
-use Rattle.dfg_reader.specs.declared.formula.Formula.{Formula, True, False, Not, Or}
-use Rattle.dfg_reader.specs.declared.formula.Formula as formulas
 use Rattle.dfg_reader.specs.declared.symbols.Found.{Found}
-use Rattle.dfg_reader.specs.Reading.{◌>>=◌, tail, is_reserved, next_mark, next_word, mark_at, name_at, bytes_of, spelled_at, adding, commas}
+use Rattle.dfg_reader.specs.Reading.{next_mark, bytes_of, spelled_at, adding, commas}
 use Rattle.dfg_reader.specs.Symbols.{with_arity, lookup}
-use Rattle.dfg_reader.specs.Terms.{TermReader, fits, fitting, symbol_named, counted, terms_at, arguments_at, application_at, term_at, atom_at}
-use Rattle.dfg_reader.specs.Grammar.{Phrase, mark, word, token, separated, enclosed, arguments, IsNameOf, IsSymbol, symbol, application, term, atom, IsSignature}
+use Rattle.dfg_reader.specs.Terms.{TermReader, fitting, symbol_named, counted, terms_at, arguments_at, application_at, term_at, atom_at}
+use Rattle.dfg_reader.specs.Grammar.{Phrase, mark, separated, arguments, IsSymbol, application, term, atom, IsSignature}
 use Rattle.dfg_reader.proofs.Steps.{then_ok, when_true, when_false, token_tail, mark_next, other_mark, mark_read, name_read}
 use Rattle.dfg_reader.proofs.Lengths.{Takes, term_takes}
 use Rattle.dfg_reader.proofs.InRow.{Ends, separated_read, grown, lone, fold_lone, Anything}
