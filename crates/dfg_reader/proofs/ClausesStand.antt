@@ -23,7 +23,7 @@ use Rattle.dfg_reader.specs.Terms.{TermReader, fits, fitting, symbol_named, coun
 use Rattle.dfg_reader.specs.Clauses.{unsigned_at, literal_at, literals_at, body_at, within_limits, label_at, clause_at, origin_at, form_at, clauses_head_at, is_refused_list, list_at}
 use Rattle.dfg_reader.specs.Grammar.{Phrase, word, separated, enclosed, arguments, IsSymbol, application, term, atom, unsigned, literal, body, label, clause, origin, clause_list}
 use Rattle.dfg_reader.proofs.Kept.{bind_ok, chosen, ok_is, refused_not, fault_not}
-use Rattle.dfg_reader.proofs.Taken.{spelled_is, deep_not}
+use Rattle.dfg_reader.proofs.Stands.{spelled_is, deep_not}
 use Rattle.dfg_reader.proofs.Names.{found_declared}
 use Rattle.dfg_reader.proofs.InRow.{grown, lone, fold_lone}
 use Rattle.dfg_reader.proofs.Stands.{next_mark_stands, mark_stands, next_word_stands, word_stands, identifier_stands, name_stands, separated_stand, listed_stand}

@@ -7,7 +7,7 @@ use Rattle.dfg_tokens.specs.declared.piece.Mark.TheVariants.{OpenParenthesis, Co
 use Rattle.dfg_tokens.specs.declared.token.Token.{Token}
 use Rattle.dfg_reader.specs.Reading.{Reader, next_mark, next_word, mark_at, commas, items, listed}
 use Rattle.dfg_reader.specs.Grammar.{Phrase, ◌⨾◌, mark, each, each_behind_comma, separated, list_end, joined}
-use Rattle.dfg_reader.proofs.Lengths.{Takes}
+use Rattle.dfg_reader.proofs.Fronts.{Takes, fewer}
 use Rattle.dfg_reader.proofs.Steps.{then_ok, when_true, when_false, token_shorter, token_tail, mark_next, other_mark, mark_read, word_next}
 
 -- no argument and no further value follows
@@ -18,10 +18,10 @@ module _ {S X : Type 0} (P : X → Phrase) (step : S → X → S) (Fits : S → 
   module _ (law : (s : S) (x : X) (ts rest : List Token) → Fits (step s x) → P x ts rest → next_mark OpenParenthesis rest ≡ false → read s ts ≡ Ok (step s x, rest)) where
     more_read : (xs : List X) (s : S) (x : X) (k : ℕ) (ts between rest : List Token) → Fits (fold step (step s x) xs) → length ts ≤ k → P x ts between → each_behind_comma P xs between rest → Ends rest → commas read k s ts ≡ Ok (fold step (step s x) xs, rest)
     unfolding commas
-    more_read [] s x zero ts between rest fits few p q ends = absurd (omega (arith, takes x ts between p))
+    more_read [] s x zero ts between rest fits few p q ends = absurd (omega (arith, fewer ts between (takes x ts between p)))
     more_read [] s x (suc k) ts between rest fits few p q ends =
         then_ok _ _ _ _ (law s x ts rest fits (subst (P x ts) q p) ends.1) (when_false _ _ _ _ ends.0 refl)
-    more_read (z ∷ xs) s x zero ts between rest fits few p q ends = absurd (omega (arith, takes x ts between p))
+    more_read (z ∷ xs) s x zero ts between rest fits few p q ends = absurd (omega (arith, fewer ts between (takes x ts between p)))
     more_read (z ∷ xs) s x (suc k) ts between rest fits few p q ends =
         let comma : mark Comma between q.0 = q.1 in
         let z_stands = q.2.1 in
@@ -29,7 +29,7 @@ module _ {S X : Type 0} (P : X → Phrase) (step : S → X → S) (Fits : S → 
         then_ok _ _ _ _ (law s x ts between (earlier (step s x) (z ∷ xs) fits) p (other_mark OpenParenthesis Comma between q.0 comma refl))
         (when_true _ _ _ _ (mark_next Comma between q.0 comma)
         (ap (commas read k (step s x)) (token_tail _ between q.0 comma)
-        ∙ more_read xs (step s x) z k q.0 q.2.0 rest fits (omega (arith, takes x ts between p, token_shorter _ between q.0 comma)) z_stands later ends))
+        ∙ more_read xs (step s x) z k q.0 q.2.0 rest fits (omega (arith, fewer ts between (takes x ts between p), token_shorter _ between q.0 comma)) z_stands later ends))
 
     -- values with commas between them
     pub separated_read : (xs : List X) (s : S) (ts rest : List Token) → Fits (fold step s xs) → separated P xs ts rest → Ends rest → commas read (length ts) s ts ≡ Ok (fold step s xs, rest)
@@ -47,11 +47,11 @@ module _ {S X : Type 0} (P : X → Phrase) (step : S → X → S) (Fits : S → 
     unfolding items
     items_read [] s zero ts rest fits few p ends = absurd (omega (arith, ap length p, some_next rest ends))
     items_read [] s (suc k) ts rest fits few p ends = when_true _ _ _ _ (ap (next_word end) p ∙ ends) (ap (λ us. Ok (s, us)) p)
-    items_read (x ∷ xs) s zero ts rest fits few p ends = absurd (omega (arith, takes x ts p.0 p.1))
+    items_read (x ∷ xs) s zero ts rest fits few p ends = absurd (omega (arith, fewer ts p.0 (takes x ts p.0 p.1)))
     items_read (x ∷ xs) s (suc k) ts rest fits few p ends =
         when_false _ _ _ _ (others x ts p.0 p.1)
         (then_ok _ _ _ _ (law s x ts p.0 (earlier (step s x) xs fits) p.1)
-        (items_read xs (step s x) k p.0 rest fits (omega (arith, takes x ts p.0 p.1)) p.2 ends))
+        (items_read xs (step s x) k p.0 rest fits (omega (arith, fewer ts p.0 (takes x ts p.0 p.1))) p.2 ends))
 
 -- the items of a list with `end_of_list.` behind them
 pub listed_read : {S X : Type 0} (P : X → Phrase) (step : S → X → S) (Fits : S → Type 0) (read : Reader S) → ((s : S) (xs : List X) → Fits (fold step s xs) → Fits s) → ((x : X) → Takes (P x)) → ((x : X) (ts rest : List Token) → P x ts rest → next_word words.EndOfList ts ≡ false)

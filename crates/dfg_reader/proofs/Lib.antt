@@ -4,11 +4,8 @@ pub mod Names
 pub mod Limits
 pub mod Kept
 pub mod Ordered
-pub mod Leaves
-pub mod Taken
-pub mod SpelledProblem
 pub mod Steps
-pub mod Lengths
+pub mod Fronts
 pub mod InRow
 pub mod WrittenTerms
 pub mod WrittenClauses
@@ -17,3 +14,4 @@ pub mod Stands
 pub mod ClausesStand
 pub mod ProblemStands
 pub mod OfSignature
+pub mod SpelledClauses

@@ -34,7 +34,7 @@ use Rattle.dfg_reader.specs.Terms.{TermReader, symbol_named, counted, terms_at, 
 use Rattle.dfg_reader.specs.GroundClauses.{is_true_literal, negated_part, with_negated, with_layer, with_literal, no_literals, literals, literals_in, clause_of_literals, role_clauses, entry_clauses, clauses, AreInOrder}
 use Rattle.dfg_reader.specs.Clauses.{unsigned_at, literal_at, literals_at, body_at, within_limits, label_at, clause_at, clauses_head_at, is_refused_list, list_at}
 use Rattle.dfg_reader.specs.Problems.{descriptions_at, head_at, problem_at, problem}
-use Rattle.dfg_reader.proofs.Taken.{deep_not}
+use Rattle.dfg_reader.proofs.Stands.{deep_not}
 use Rattle.dfg_reader.proofs.Kept.{bind_ok, chosen, ok_is, refused_not, items_keep, listed_keep, all-push, each_read}
 
 -- ---- terms without variables stay as they are

@@ -2,16 +2,17 @@
 use Rattle.std.proofs.Common.{◌≡◌, ℕ, ◌≤◌, ◌<◌, ◌⊎◌, inl, inr, Bool, true, false, ◌||◌, nat_le, nat_lt, List, [], ◌∷◌, ◌++◌, length, Option, Some, None, Result, Ok, Err, IfOk, refl, sym, ap, subst, ◌∙◌, length-append, arith}
 use Rattle.std.proofs.lemmas.Bool.Decides.{nat_tests}
 use Rattle.std.specs.Bool.{⊤}
+use Rattle.std.specs.List.{AllByRecursion}
 use Rattle.spl_terms.specs.declared.term.Kind.{Kind}
 use Rattle.spl_terms.specs.declared.term.Kind.TheVariants.{Function, Predicate}
 use Rattle.spl_terms.specs.declared.term.Symbol.{Symbol}
-use Rattle.spl_symbols.specs.Symbols.{Declared, found}
+use Rattle.spl_symbols.specs.Symbols.{Declared, found, HasOwnNames}
 use Rattle.dfg_tokens.specs.declared.word.Word.{Word}
 use Rattle.dfg_tokens.specs.declared.word.Word.TheVariants as words
 use Rattle.dfg_tokens.specs.declared.piece.Mark.TheVariants.{OpenParenthesis, CloseParenthesis, OpenBracket, CloseBracket, Comma, Dot}
 use Rattle.dfg_tokens.specs.declared.piece.TokenKind.TheVariants as kinds
 use Rattle.dfg_tokens.specs.declared.token.Token.{Token}
-use Rattle.dfg_tokens.specs.Tokens.{token_bytes, tokens, AreLetters, IsSpelled, AreTokensOf}
+use Rattle.dfg_tokens.specs.Tokens.{token_bytes, tokens, AreLetters, IsSpelled, IsTokenOf, AreTokensOf}
 use Rattle.dfg_tokens.proofs.OwnBytes.{own_tokens}
 use Rattle.dfg_reader.specs.declared.fault.InputError.{InputError}
 use Rattle.dfg_reader.specs.declared.fault.FaultKind.TheVariants.{Unexpected, DeclaredTwice, OutsideProfile, LimitReached}
@@ -24,11 +25,11 @@ use Rattle.dfg_reader.specs.Symbols.{free_if, new_name_at, arity_of, arity_if, a
 use Rattle.dfg_reader.specs.GroundClauses.{formula_clauses, clauses, are_within_limits, HasLimits}
 use Rattle.dfg_reader.specs.Clauses.{body_at, within_limits, label_at, clause_at, clauses_head_at, is_refused_list, list_at}
 use Rattle.dfg_reader.specs.Problems.{is_text_item, is_status, status_at, description_at, descriptions_at, head_at, problem_at, problem}
-use Rattle.dfg_reader.specs.Grammar.{mark, word, token, any_word, IsNumberOf, declaration, declarations, symbol_item, signature, is_description_word, is_status_word, description, descriptions, head, clause_list, IsSignature, IsWritten}
-use Rattle.dfg_reader.proofs.Kept.{bind_ok, chosen, ok_is, refused_not, fault_not, listed_keep, items_keep, all-push}
+use Rattle.dfg_reader.specs.Grammar.{Phrase, ◌⨾◌, mark, word, token, any_word, enclosed, each, each_behind_comma, joined, IsNameOf, IsNumberOf, declaration, declarations, symbol_item, signature, is_description_word, is_status_word, description, descriptions, head, clause_list, IsSignature, IsWritten}
+use Rattle.dfg_reader.proofs.Kept.{bind_ok, chosen, ok_is, refused_not, fault_not, commas_keep, listed_keep, items_keep, all-push}
 use Rattle.dfg_reader.proofs.Limits.{limits-push, none_within, clauses-none}
-use Rattle.dfg_reader.proofs.Leaves.{Leaves, leaves_then, leaves_tail, commas_hold, listed_hold, mark_left, symbol_leaves, head_leaves, descriptions_leave}
-use Rattle.dfg_reader.proofs.Taken.{spelled_is, all_right}
+use Rattle.dfg_reader.proofs.Fronts.{Keeps, weaken, token_takes, declaration_takes, symbol_item_takes, head_keeps, descriptions_keep}
+use Rattle.dfg_reader.proofs.Stands.{spelled_is}
 use Rattle.dfg_reader.proofs.Names.{one_more_name}
 use Rattle.dfg_reader.proofs.InRow.{grown, lone, whole, fold_lone, fold_whole}
 use Rattle.dfg_reader.proofs.Stands.{mark_stands, next_word_stands, word_stands, identifier_stands, name_stands, text_stands, separated_stand, items_stand, listed_stand}
@@ -141,75 +142,128 @@ module _ (bytes : List ℕ) where
         | inr h ↦ subst (λ (q : List Declared × List Token). signature bytes q.0 ts q.1) (ok_is ([], ts) y h.1) (inl (refl, refl))
       ]
 
--- ---- each name is new, of letters, digits and `_`, and within the limits
+-- ---- each name is of letters, digits and `_`
 
-declaration_letters : (bytes : List ℕ) (kind : Kind) (d : Declared) (ts rest : List Token) → AreTokensOf bytes ts → declaration bytes kind d ts rest → AreLetters d.name
-declaration_letters bytes kind d ts rest own p =
-    let opened = p.1 in
-    let named = opened.2.1 in
-    let name = named.1.1 in
-    let tokens_are : ts ≡ opened.1.0 ∷ named.1.0 ∷ named.0 = opened.1.2 ∙ ap (λ us. opened.1.0 ∷ us) named.1.2 in
-    let both = subst (AreTokensOf bytes) tokens_are own in
-    subst AreLetters name.3 (subst (λ k. IsSpelled k (token_bytes bytes named.1.0)) name.1 both.1.0).1
+all_right : (bytes : List ℕ) (a b : List Token) → AreTokensOf bytes (a ++ b) → AreTokensOf bytes b
+all_right bytes [] b all = all
+all_right bytes (t ∷ a) b all = all_right bytes a b all.1
 
 module _ (bytes : List ℕ) where
-  -- the symbols are a signature, and the tokens that are left are the last ones
-  abbrev Sound : List Declared → List Token → Type 0
-  Sound s ts = IsSignature s × Leaves (tokens bytes) ts
+  own_after : (P : Phrase) → Keeps P → (ts rest : List Token) → P ts rest → AreTokensOf bytes ts → AreTokensOf bytes rest
+  own_after P keeps ts rest p own = let l = keeps ts rest p in all_right bytes l.front rest (subst (AreTokensOf bytes) l.parts own)
 
-  own_left : (ts : List Token) → Leaves (tokens bytes) ts → AreTokensOf bytes ts
-  own_left ts l = all_right bytes l.front ts (subst (AreTokensOf bytes) l.parts (own_tokens bytes))
+  own_behind : (P : Token → Type 0) (ts rest : List Token) → token P ts rest → AreTokensOf bytes ts → AreTokensOf bytes rest
+  own_behind P ts rest p own = own_after (token P) (weaken (token P) (token_takes P)) ts rest p own
 
-  symbol_sound : (kind : Kind) (s : List Declared) (ts : List Token) (y : List Declared × List Token) → Sound s ts → symbol_at bytes kind s ts ≡ Ok y → Sound y.0 y.1
+  abbrev HasLetters : Declared → Type 0
+  HasLetters d = AreLetters d.name
+
+  name_letters : (name : List ℕ) (t : Token) → IsNameOf bytes name t → IsTokenOf bytes t → AreLetters name
+  name_letters name t is own =
+      let letters : IsSpelled (kinds.Word is.0) (token_bytes bytes t) = subst (λ k. IsSpelled k (token_bytes bytes t)) is.1 own in
+      subst AreLetters is.3 letters.1
+
+  declaration_letters : (kind : Kind) (d : Declared) (ts rest : List Token) → AreTokensOf bytes ts → declaration bytes kind d ts rest → HasLetters d
+  declaration_letters kind d ts rest own p =
+      let opened = p.1 in
+      let named = opened.2.1 in
+      let inner : AreTokensOf bytes opened.0 = own_behind _ ts opened.0 opened.1 own in
+      name_letters d.name named.1.0 named.1.1 (subst (AreTokensOf bytes) named.1.2 inner).0
+
+  declaration_keeps : (kind : Kind) (d : Declared) → Keeps (declaration bytes kind d)
+  declaration_keeps kind d = weaken (declaration bytes kind d) (declaration_takes bytes kind d)
+
+  behind_letters : (kind : Kind) (ds : List Declared) (ts rest : List Token) → AreTokensOf bytes ts → each_behind_comma (declaration bytes kind) ds ts rest → AllByRecursion HasLetters ds
+  behind_letters kind [] ts rest own p = tt
+  behind_letters kind (d ∷ ds) ts rest own p =
+      let value = p.2 in
+      let here = own_behind _ ts p.0 p.1 own in
+      (declaration_letters kind d p.0 value.0 here value.1, behind_letters kind ds value.0 rest (own_after (declaration bytes kind d) (declaration_keeps kind d) p.0 value.0 value.1 here) value.2)
+
+  declarations_letters : (w : Word) (kind : Kind) (ds : List Declared) (ts rest : List Token) → AreTokensOf bytes ts → declarations bytes w kind ds ts rest → AllByRecursion HasLetters ds
+  declarations_letters w kind [] ts rest own p = tt
+  declarations_letters w kind (d ∷ ds) ts rest own p =
+      let opened = p.2 in
+      let list = opened.2.1 in
+      let here = own_behind _ p.0 opened.0 opened.1 (own_behind _ ts p.0 p.1 own) in
+      (declaration_letters kind d opened.0 list.0 here list.1, behind_letters kind ds list.0 opened.2.0 (own_after (declaration bytes kind d) (declaration_keeps kind d) opened.0 list.0 list.1 here) list.2)
+
+  item_letters : (ds : List Declared) (ts rest : List Token) → AreTokensOf bytes ts → symbol_item bytes ds ts rest → AllByRecursion HasLetters ds
+  item_letters ds ts rest own (inl p) = declarations_letters words.Functions Function ds ts rest own p
+  item_letters ds ts rest own (inr p) = declarations_letters words.Predicates Predicate ds ts rest own p
+
+  all-append : (xs ys : List Declared) → AllByRecursion HasLetters xs → AllByRecursion HasLetters ys → AllByRecursion HasLetters (xs ++ ys)
+  all-append [] ys all more = more
+  all-append (x ∷ xs) ys all more = (all.0, all-append xs ys all.1 more)
+
+  groups_letters : (groups : List (List Declared)) (ts rest : List Token) → AreTokensOf bytes ts → each (symbol_item bytes) groups ts rest → AllByRecursion HasLetters (joined groups)
+  groups_letters [] ts rest own p = tt
+  groups_letters (g ∷ groups) ts rest own p =
+      all-append g (joined groups) (item_letters g ts p.0 own p.1) (groups_letters groups p.0 rest (own_after (symbol_item bytes g) (weaken (symbol_item bytes g) (symbol_item_takes bytes g)) ts p.0 p.1 own) p.2)
+
+  signature_letters : (symbols : List Declared) (ts rest : List Token) → AreTokensOf bytes ts → signature bytes symbols ts rest → AllByRecursion HasLetters symbols
+  signature_letters symbols ts rest own (inl p) = subst (AllByRecursion HasLetters) (sym p.0) tt
+  signature_letters symbols ts rest own (inr p) =
+      let named = p.2 in
+      let dot = named.2 in
+      subst (AllByRecursion HasLetters) (sym p.1) (groups_letters p.0 dot.0 dot.2.0 (own_behind _ named.0 dot.0 dot.1 (own_behind _ ts named.0 named.1 own)) dot.2.1)
+
+  -- ---- each name is new, and the symbols are within the limits
+
+  abbrev IsSmall : Declared → Type 0
+  IsSmall d = d.arity ≤ 255
+
+  abbrev Sound : List Declared → Type 0
+  Sound s = HasOwnNames s × (length s ≤ 65536) × AllByRecursion IsSmall s
+
+  symbol_sound : (kind : Kind) (s : List Declared) (ts : List Token) (y : List Declared × List Token) → Sound s → symbol_at bytes kind s ts ≡ Ok y → Sound y.0
   symbol_sound kind s ts y sound e =
       let one = symbol_stands bytes kind s ts y e in
-      let sig = sound.0 in
       let few : length (s ++ one.0 ∷ []) ≤ 65536 = omega (arith, length-append s (one.0 ∷ []), one.4) in
-      let all = all-push (λ (d : Declared). (d.arity ≤ 255) × AreLetters d.name) s one.0 sig.2 (one.5, declaration_letters bytes kind one.0 ts y.1 (own_left ts sound.1) one.2) in
-      (subst IsSignature (sym one.1) (one_more_name s one.0 sig.0 one.3, few, all), leaves_then (tokens bytes) ts y.1 sound.1 (symbol_leaves bytes kind s ts y e))
+      subst Sound (sym one.1) (one_more_name s one.0 sound.0 one.3, few, all-push IsSmall s one.0 sound.2 one.5)
 
-  later : (s : List Declared) (a b : List Token) → Sound s a → Leaves a b → Sound s b
-  later s a b sound l = (sound.0, leaves_then (tokens bytes) a b sound.1 l)
-
-  passes : (s : List Declared) (ts : List Token) → Sound s ts → Sound s (tail ts)
-  passes s ts sound = later s ts (tail ts) sound (leaves_tail ts)
-
-  symbols_sound : (kind : Kind) (s : List Declared) (ts : List Token) (y : List Declared × List Token) → Sound s ts → symbols_at bytes kind s ts ≡ Ok y → Sound y.0 y.1
+  symbols_sound : (kind : Kind) (s : List Declared) (ts : List Token) (y : List Declared × List Token) → Sound s → symbols_at bytes kind s ts ≡ Ok y → Sound y.0
   unfolding symbols_at
   symbols_sound kind s ts y sound e =
       let a = bind_ok (mark_at OpenBracket ts) _ y e in
       let b = bind_ok (commas (symbol_at bytes kind) (length a.0) s a.0) _ y a.2 in
       let c = bind_ok (mark_at CloseBracket b.0.1) _ y b.2 in
       let d = bind_ok (mark_at Dot c.0) _ y c.2 in
-      let all = commas_hold Sound (symbol_at bytes kind) (symbol_sound kind) passes (length a.0) s a.0 b.0 (later s ts a.0 sound (mark_left OpenBracket ts a.0 a.1)) b.1 in
-      subst (λ (q : List Declared × List Token). Sound q.0 q.1) (ok_is (b.0.0, d.0) y d.2)
-      (later b.0.0 c.0 d.0 (later b.0.0 b.0.1 c.0 all (mark_left CloseBracket b.0.1 c.0 c.1)) (mark_left Dot c.0 d.0 d.1))
+      subst (λ (q : List Declared × List Token). Sound q.0) (ok_is (b.0.0, d.0) y d.2) (commas_keep Sound (symbol_at bytes kind) (symbol_sound kind) (length a.0) s a.0 b.0 sound b.1)
 
-  item_sound : (s : List Declared) (ts : List Token) (y : List Declared × List Token) → Sound s ts → symbol_item_at bytes s ts ≡ Ok y → Sound y.0 y.1
+  item_sound : (s : List Declared) (ts : List Token) (y : List Declared × List Token) → Sound s → symbol_item_at bytes s ts ≡ Ok y → Sound y.0
   unfolding symbol_item_at
   item_sound s ts y sound e =
       elim (chosen (is_refused_item ts) (refuse OutsideProfile ts) _ (Ok y) e) [
         | inl h ↦ absurd (refused_not OutsideProfile ts y h.1)
         | inr h ↦ elim (chosen (next_word words.Functions ts) (symbols_at bytes Function s (tail ts)) _ (Ok y) h.1) [
-          | inl f ↦ symbols_sound Function s (tail ts) y (passes s ts sound) f.1
+          | inl f ↦ symbols_sound Function s (tail ts) y sound f.1
           | inr f ↦ elim (chosen (next_word words.Predicates ts) (symbols_at bytes Predicate s (tail ts)) (refuse Unexpected ts) (Ok y) f.1) [
-            | inl p ↦ symbols_sound Predicate s (tail ts) y (passes s ts sound) p.1
+            | inl p ↦ symbols_sound Predicate s (tail ts) y sound p.1
             | inr p ↦ absurd (refused_not Unexpected ts y p.1)
           ]
         ]
       ]
 
-  none_sound : IsSignature []
+  none_sound : Sound []
   none_sound = (λ i d e. absurd cc, omega arith, tt)
 
-  signature_sound : (ts : List Token) (y : List Declared × List Token) → Leaves (tokens bytes) ts → signature_at bytes [] ts ≡ Ok y → IsSignature y.0
+  signature_sound : (ts : List Token) (y : List Declared × List Token) → signature_at bytes [] ts ≡ Ok y → Sound y.0
   unfolding signature_at
-  signature_sound ts y l e =
+  signature_sound ts y e =
       elim (chosen (next_word words.ListOfSymbols ts) (mark_at Dot (tail ts) >>= λ rest. listed (symbol_item_at bytes) [] rest) (Ok ([], ts)) (Ok y) e) [
-        | inl h ↦ (let a = bind_ok (mark_at Dot (tail ts)) (λ rest. listed (symbol_item_at bytes) [] rest) y h.1 in
-            (listed_hold Sound (symbol_item_at bytes) item_sound passes later [] a.0 y (later [] (tail ts) a.0 (passes [] ts (none_sound, l)) (mark_left Dot (tail ts) a.0 a.1)) a.2).0)
-        | inr h ↦ subst (λ (q : List Declared × List Token). IsSignature q.0) (ok_is ([], ts) y h.1) none_sound
+        | inl h ↦ (let a = bind_ok (mark_at Dot (tail ts)) (λ rest. listed (symbol_item_at bytes) [] rest) y h.1 in listed_keep Sound (symbol_item_at bytes) item_sound [] a.0 y none_sound a.2)
+        | inr h ↦ subst (λ (q : List Declared × List Token). Sound q.0) (ok_is ([], ts) y h.1) none_sound
       ]
+
+  both_hold : (xs : List Declared) → AllByRecursion IsSmall xs → AllByRecursion HasLetters xs → AllByRecursion (λ d. (d.arity ≤ 255) × AreLetters d.name) xs
+  both_hold [] small letters = tt
+  both_hold (x ∷ xs) small letters = ((small.0, letters.0), both_hold xs small.1 letters.1)
+
+  signature_is : (ts : List Token) (y : List Declared × List Token) → AreTokensOf bytes ts → signature_at bytes [] ts ≡ Ok y → IsSignature y.0
+  signature_is ts y own e =
+      let sound = signature_sound ts y e in
+      (sound.0, sound.1, both_hold y.0 sound.2 (signature_letters y.0 ts y.1 own (signature_stands bytes ts y e)))
 
 -- ---- the clauses are within the limits
 
@@ -336,15 +390,17 @@ problem_stands bytes p e =
     let d = bind_ok (items words.EndProblem (list_at bytes c.0.0) (length c.0.1) [] c.0.1) _ p c.2 in
     let f = bind_ok (mark_at Dot (tail d.0.1)) _ p d.2 in
     let read : Problem = record { signature = c.0.0; entries = d.0.0; proofs = []; end_at = place d.0.1 } in
-    let left = leaves_then (tokens bytes) a.0 b.0 (head_leaves (tokens bytes) a.0 a.1) (descriptions_leave a.0 b.0 b.1) in
+    let begun = head_stands (tokens bytes) a.0 a.1 in
+    let described = descriptions_stand a.0 b.0 b.1 in
+    let own = own_after bytes descriptions descriptions_keep a.0 b.0 described (own_after bytes head head_keeps (tokens bytes) a.0 begun (own_tokens bytes)) in
     let lists = items_stand (clause_list bytes c.0.0) (grown whole) (list_at bytes c.0.0) (list_stands bytes c.0.0) words.EndProblem (length c.0.1) [] c.0.1 d.0 d.1 in
     let limited = items_keep HasLimits (list_at bytes c.0.0) (list_limited bytes c.0.0) words.EndProblem (length c.0.1) [] c.0.1 d.0 none_limited d.1 in
     subst (IsWritten bytes) (ok_is read p f.2) (
       f.0,
-      signature_sound bytes b.0 c.0 left c.1,
+      signature_is bytes b.0 c.0 own c.1,
       limited,
       refl,
-      (a.0, head_stands (tokens bytes) a.0 a.1, (b.0, descriptions_stand a.0 b.0 b.1, (c.0.1, signature_stands bytes b.0 c.0 c.1, (d.0.1, (lists.0, lists.1 ∙ fold_whole [] lists.0, lists.2), (refl, (tail d.0.1, lists.3, mark_stands Dot (tail d.0.1) f.0 f.1)))))),
+      (a.0, begun, (b.0, described, (c.0.1, signature_stands bytes b.0 c.0 c.1, (d.0.1, (lists.0, lists.1 ∙ fold_whole [] lists.0, lists.2), (refl, (tail d.0.1, lists.3, mark_stands Dot (tail d.0.1) f.0 f.1)))))),
     )
 
 pub written-read : (bytes : List ℕ) (ts : List Token) (r : Result Problem InputError) → ts ≡ tokens bytes → Gives {X = Problem} (λ p. p) r (problem_at bytes ts) → IfOk r (λ p. IsWritten bytes p)

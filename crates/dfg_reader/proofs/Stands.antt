@@ -9,11 +9,15 @@ use Rattle.dfg_tokens.specs.declared.piece.TokenKind.{TokenKind}
 use Rattle.dfg_tokens.specs.declared.piece.TokenKind.TheVariants as kinds
 use Rattle.dfg_tokens.specs.declared.token.Token.{Token}
 use Rattle.dfg_tokens.specs.Words.{spelling}
-use Rattle.dfg_tokens.specs.Tokens.{byte_of}
-use Rattle.dfg_reader.specs.declared.fault.FaultKind.TheVariants.{Unexpected}
-use Rattle.dfg_reader.specs.Reading.{◌>>=◌, Reader, tail, refuse, is_reserved, kind_is_mark, kind_is_word, kind_is_name, kind_is_identifier, kind_is_text, next_is, next_mark, next_word, mark_at, word_at, taken, identifier_at, name_at, text_at, commas, items, listed}
+use Rattle.dfg_tokens.specs.Tokens.{byte_of, token_bytes}
+use Rattle.dfg_reader.specs.declared.fault.FaultKind.TheVariants.{Unexpected, LimitReached}
+use Rattle.dfg_reader.specs.declared.fault.Limit.TheVariants as limits
+use Rattle.dfg_reader.specs.Terms.{too_deep}
+use Rattle.spl_terms.specs.declared.term.Term.{Term}
+use Rattle.std.specs.Str.{is_utf8}
+use Rattle.dfg_reader.specs.Reading.{◌>>=◌, Reader, tail, refuse, is_reserved, kind_is_mark, kind_is_word, kind_is_name, kind_is_identifier, kind_is_text, next_is, next_mark, next_word, mark_at, word_at, taken, identifier_at, name_at, text_at, commas, items, listed, fault, bytes_of, spelled_at}
 use Rattle.dfg_reader.specs.Grammar.{Phrase, ◌⨾◌, token, mark, word, text, each, separated, list_end}
-use Rattle.dfg_reader.proofs.Kept.{bind_ok, chosen, done, ok_is, refused_not}
+use Rattle.dfg_reader.proofs.Kept.{bind_ok, chosen, done, ok_is, refused_not, fault_not}
 use Rattle.dfg_reader.proofs.Steps.{same_word}
 
 -- the next token passes, and what is behind it is left
@@ -133,6 +137,22 @@ text_stands (t ∷ ts) rest e =
       | inl h ↦ (t, is_text t.kind h.0, ap (λ us. t ∷ us) (ok_is ts rest h.1))
       | inr h ↦ absurd (refused_not Unexpected (t ∷ ts) rest h.1)
     ]
+
+-- ---- names, and terms that are too deep
+
+pub spelled_is : (bytes : List ℕ) (t : Token) (name : List ℕ) → spelled_at bytes t ≡ Ok name → token_bytes bytes t ≡ name
+unfolding spelled_at bytes_of
+spelled_is bytes t name e =
+    elim (chosen (is_utf8 (token_bytes bytes t)) (Ok (token_bytes bytes t)) (fault t.at Unexpected) (Ok name) e) [
+      | inl h ↦ ok_is (token_bytes bytes t) name h.1
+      | inr h ↦ absurd (fault_not t.at Unexpected name h.1)
+    ]
+
+pub deep_not : (ts : List Token) (y : Term × List Token) → too_deep ts ≡ Ok y → ⊥
+unfolding too_deep
+deep_not ts y e =
+    let a = bind_ok (name_at ts) (λ name. fault name.0.at (LimitReached limits.Depth)) y e in
+    fault_not a.0.0.at (LimitReached limits.Depth) y a.2
 
 -- ---- several in a row
 

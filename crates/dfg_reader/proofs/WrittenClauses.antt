@@ -22,7 +22,7 @@ use Rattle.dfg_reader.specs.Clauses.{unsigned_at, literal_at, body_at, within_li
 use Rattle.dfg_reader.specs.Grammar.{◌⨾◌, enclosed, mark, word, atom, unsigned, negation, literal, body, label, clause, origin, clause_list, IsSignature}
 use Rattle.dfg_reader.proofs.Limits.{clauses-push}
 use Rattle.dfg_reader.proofs.Steps.{then_ok, when_true, when_false, token_tail, mark_next, other_mark, mark_read, next_word_is, other_word, word_next, word_read, identifier_read, name_no_word}
-use Rattle.dfg_reader.proofs.Lengths.{literal_takes, clause_takes}
+use Rattle.dfg_reader.proofs.Fronts.{literal_takes, clause_takes}
 use Rattle.dfg_reader.proofs.InRow.{Begins, begins_earlier, grown, lone, fold_lone, listed_read}
 use Rattle.dfg_reader.proofs.WrittenTerms.{values_read, closing_ends, atom_read}
 

@@ -25,7 +25,7 @@ use Rattle.dfg_reader.specs.Problems.{is_text_item, is_status, status_at, descri
 use Rattle.dfg_reader.specs.Grammar.{mark, word, token, any_word, each, joined, IsNumberOf, declaration, declarations, symbol_item, signature, is_description_word, is_status_word, description, descriptions, head, ending, clause_list, clause_lists, IsSignature, IsWritten}
 use Rattle.dfg_reader.proofs.Names.{new_name, get_next}
 use Rattle.dfg_reader.proofs.Steps.{then_ok, when_true, when_false, token_tail, other_mark, mark_read, mark_no_name, next_word_is, other_word, word_next, word_read, identifier_read, name_read, text_read}
-use Rattle.dfg_reader.proofs.Lengths.{declaration_takes, symbol_item_takes, description_takes, clause_list_takes}
+use Rattle.dfg_reader.proofs.Fronts.{declaration_takes, symbol_item_takes, description_takes, clause_list_takes}
 use Rattle.dfg_reader.proofs.InRow.{Begins, begins_earlier, grown, lone, whole, fold_lone, fold_whole, Anything, separated_read, items_read, listed_read}
 use Rattle.dfg_reader.proofs.WrittenTerms.{spelled_read, all_at}
 use Rattle.dfg_reader.proofs.WrittenClauses.{list_read}

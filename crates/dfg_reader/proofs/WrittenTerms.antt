@@ -18,7 +18,7 @@ use Rattle.dfg_reader.specs.Symbols.{with_arity, lookup}
 use Rattle.dfg_reader.specs.Terms.{TermReader, fitting, symbol_named, counted, terms_at, arguments_at, application_at, term_at, atom_at}
 use Rattle.dfg_reader.specs.Grammar.{Phrase, mark, separated, arguments, IsSymbol, application, term, atom, IsSignature}
 use Rattle.dfg_reader.proofs.Steps.{then_ok, when_true, when_false, token_tail, mark_next, other_mark, mark_read, name_read}
-use Rattle.dfg_reader.proofs.Lengths.{Takes, term_takes}
+use Rattle.dfg_reader.proofs.Fronts.{Takes, term_takes}
 use Rattle.dfg_reader.proofs.InRow.{Ends, separated_read, grown, lone, fold_lone, Anything}
 
 -- ---- names

@@ -1,49 +1,74 @@
 -- A phrase takes tokens from the front.
-use Rattle.std.proofs.Common.{ℕ, zero, suc, ◌-◌, ◌≤◌, ◌<◌, inl, inr, Bool, List, [], ◌∷◌, length, ap, arith}
+use Rattle.std.proofs.Common.{◌≡◌, ℕ, zero, suc, ◌-◌, ◌<◌, inl, inr, Bool, List, [], ◌∷◌, ◌++◌, length, refl, sym, ap, ◌∙◌, append_assoc, length-append, arith}
 use Rattle.spl_terms.specs.declared.term.Kind.{Kind}
 use Rattle.spl_terms.specs.declared.term.Symbol.{Symbol}
 use Rattle.spl_terms.specs.declared.term.Term.{Term}
 use Rattle.spl_terms.specs.declared.atom.Atom.{Atom}
 use Rattle.spl_symbols.specs.Symbols.{Declared}
 use Rattle.dfg_tokens.specs.declared.word.Word.{Word}
+use Rattle.dfg_tokens.specs.declared.word.Word.TheVariants as words
 use Rattle.dfg_tokens.specs.declared.piece.Mark.{Mark}
+use Rattle.dfg_tokens.specs.declared.piece.Mark.TheVariants.{Comma, Dot}
 use Rattle.dfg_tokens.specs.declared.token.Token.{Token}
 use Rattle.dfg_reader.specs.declared.formula.Formula.{Formula}
 use Rattle.dfg_reader.specs.declared.problem.Entry.{Entry}
-use Rattle.dfg_reader.specs.Grammar.{Phrase, ◌⨾◌, nothing, either, token, mark, word, each, each_behind_comma, separated, enclosed, arguments, symbol, application, term, atom, unsigned, negation, literal, body, label, identifier, text, list_end, origin, clause, clause_list, declaration, declarations, symbol_item, description}
-use Rattle.dfg_reader.proofs.Steps.{token_shorter}
+use Rattle.dfg_reader.specs.Grammar.{Phrase, ◌⨾◌, nothing, either, token, mark, word, each, each_behind_comma, separated, enclosed, arguments, symbol, application, term, atom, unsigned, negation, literal, body, label, identifier, text, list_end, origin, clause, clause_list, declaration, declarations, symbol_item, signature, description, descriptions, head}
 
--- no token is added
+-- the second list is the end of the first
+pub record Leaves (ts : List Token) (rest : List Token) : Type 0 where
+  pub front : List Token
+  pub parts : ts ≡ front ++ rest
+
+-- a token or more stands before it
+pub record LeavesFewer (ts : List Token) (rest : List Token) : Type 0 where
+  pub first : Token
+  pub front : List Token
+  pub parts : ts ≡ first ∷ front ++ rest
+
 abbrev pub Keeps : Phrase → Type 0
-Keeps P = (ts rest : List Token) → P ts rest → length rest ≤ length ts
+Keeps P = (ts rest : List Token) → P ts rest → Leaves ts rest
 
--- a token or more is taken
 abbrev pub Takes : Phrase → Type 0
-Takes P = (ts rest : List Token) → P ts rest → length rest < length ts
+Takes P = (ts rest : List Token) → P ts rest → LeavesFewer ts rest
+
+pub fewer : (ts rest : List Token) → LeavesFewer ts rest → length rest < length ts
+fewer ts rest l = omega (arith, ap length l.parts, length-append l.front rest)
+
+pub leaves_all : (ts : List Token) → Leaves ts ts
+leaves_all ts = record { front = []; parts = refl }
+
+pub leaves_then : (a b c : List Token) → Leaves a b → Leaves b c → Leaves a c
+leaves_then a b c p q = record { front = p.front ++ q.front; parts = p.parts ∙ ap (λ (ts : List Token). p.front ++ ts) q.parts ∙ sym (append_assoc p.front q.front c) }
 
 pub weaken : (P : Phrase) → Takes P → Keeps P
-weaken P h ts rest p = omega (arith, h ts rest p)
+weaken P h ts rest p = let l = h ts rest p in record { front = l.first ∷ l.front; parts = l.parts }
 
 nothing_keeps : Keeps nothing
-nothing_keeps ts rest p = omega (arith, ap length p)
+nothing_keeps ts rest p = record { front = []; parts = p }
 
-then_keeps : (P Q : Phrase) → Keeps P → Keeps Q → Keeps (P ⨾ Q)
-then_keeps P Q h k ts rest p = omega (arith, h ts p.0 p.1, k p.0 rest p.2)
+pub then_keeps : (P Q : Phrase) → Keeps P → Keeps Q → Keeps (P ⨾ Q)
+then_keeps P Q h k ts rest p = leaves_then ts p.0 rest (h ts p.0 p.1) (k p.0 rest p.2)
 
 pub then_takes : (P Q : Phrase) → Takes P → Keeps Q → Takes (P ⨾ Q)
-then_takes P Q h k ts rest p = omega (arith, h ts p.0 p.1, k p.0 rest p.2)
+then_takes P Q h k ts rest p =
+    let l = h ts p.0 p.1 in
+    let m = k p.0 rest p.2 in
+    record { first = l.first; front = l.front ++ m.front; parts = l.parts ∙ ap (λ (us : List Token). l.first ∷ (l.front ++ us)) m.parts ∙ ap (λ (us : List Token). l.first ∷ us) (sym (append_assoc l.front m.front rest)) }
+
+pub token_takes : (P : Token → Type 0) → Takes (token P)
+token_takes P ts rest p = record { first = p.0; front = []; parts = p.2 }
 
 either_takes : (P Q : Phrase) → Takes P → Takes Q → Takes (either P Q)
 either_takes P Q h k ts rest (inl p) = h ts rest p
 either_takes P Q h k ts rest (inr q) = k ts rest q
 
-mark_takes : (m : Mark) → Takes (mark m)
-mark_takes m ts rest p = token_shorter _ ts rest p
+pub mark_takes : (m : Mark) → Takes (mark m)
+mark_takes m ts rest p = token_takes _ ts rest p
 
-word_takes : (w : Word) → Takes (word w)
-word_takes w ts rest p = token_shorter _ ts rest p
+pub word_takes : (w : Word) → Takes (word w)
+word_takes w ts rest p = token_takes _ ts rest p
 
-enclosed_takes : (P : Phrase) → Keeps P → Takes (enclosed P)
+pub enclosed_takes : (P : Phrase) → Keeps P → Takes (enclosed P)
 enclosed_takes P h = then_takes (mark _) (P ⨾ mark _) (mark_takes _) (then_keeps P (mark _) h (weaken (mark _) (mark_takes _)))
 
 module _ {X : Type 0} (P : X → Phrase) (h : (x : X) → Keeps (P x)) where
@@ -66,7 +91,7 @@ module _ {X : Type 0} (P : X → Phrase) (h : (x : X) → Keeps (P x)) where
 -- ---- terms, atoms and literals
 
 symbol_takes : (bytes : List ℕ) (symbols : List Declared) (in_term : Bool) (s : Symbol) (count : ℕ) → Takes (symbol bytes symbols in_term s count)
-symbol_takes bytes symbols in_term s count ts rest p = token_shorter _ ts rest p
+symbol_takes bytes symbols in_term s count ts rest p = token_takes _ ts rest p
 
 application_takes : (bytes : List ℕ) (symbols : List Declared) (in_term : Bool) (P : Term → Phrase) → ((t : Term) → Keeps (P t)) → (s : Symbol) (args : List Term) → Takes (application bytes symbols in_term P s args)
 application_takes bytes symbols in_term P h s args = then_takes (symbol bytes symbols in_term s (length args)) (arguments P args) (symbol_takes bytes symbols in_term s (length args)) (arguments_keep P h args)
@@ -92,12 +117,12 @@ literal_takes bytes symbols depth f = either_takes (unsigned bytes symbols depth
 
 -- ---- the items of lists
 
-body_keeps : (bytes : List ℕ) (symbols : List Declared) (f : Formula) → Keeps (body bytes symbols f)
+pub body_keeps : (bytes : List ℕ) (symbols : List Declared) (f : Formula) → Keeps (body bytes symbols f)
 body_keeps bytes symbols f ts rest (inl p) = weaken _ (literal_takes bytes symbols 1000 f) ts rest p
 body_keeps bytes symbols f ts rest (inr p) = weaken _ (then_takes (word _) _ (word_takes _) (weaken _ (enclosed_takes _ (separated_keeps (literal bytes symbols (1000 - 1)) (λ g. weaken _ (literal_takes bytes symbols (1000 - 1) g)) p.0)))) ts rest p.2
 
 token_keeps : (P : Token → Type 0) → Keeps (token P)
-token_keeps P = weaken (token P) (token_shorter P)
+token_keeps P = weaken (token P) (token_takes P)
 
 label_keeps : Keeps label
 label_keeps ts rest (inl p) = nothing_keeps ts rest p
@@ -109,7 +134,7 @@ clause_takes bytes symbols e ts rest p = then_takes (word _) _ (word_takes _) (t
 end_keeps : Keeps list_end
 end_keeps = then_keeps (word _) (mark _) (weaken _ (word_takes _)) (weaken _ (mark_takes _))
 
-origin_keeps : Keeps origin
+pub origin_keeps : Keeps origin
 origin_keeps = weaken _ (either_takes (word _) (word _) (word_takes _) (word_takes _))
 
 pub clause_list_takes : (bytes : List ℕ) (symbols : List Declared) (es : List Entry) → Takes (clause_list bytes symbols es)
@@ -126,5 +151,21 @@ pub symbol_item_takes : (bytes : List ℕ) (ds : List Declared) → Takes (symbo
 symbol_item_takes bytes ds = either_takes _ _ (declarations_take bytes _ _ ds) (declarations_take bytes _ _ ds)
 
 pub description_takes : Takes description
-description_takes ts rest (inl p) = then_takes _ _ (token_shorter _) (then_keeps _ (mark _) (weaken _ (enclosed_takes text (token_keeps _))) (weaken _ (mark_takes _))) ts rest p
+description_takes ts rest (inl p) = then_takes _ _ (token_takes _) (then_keeps _ (mark _) (weaken _ (enclosed_takes text (token_keeps _))) (weaken _ (mark_takes _))) ts rest p
 description_takes ts rest (inr p) = then_takes (word _) _ (word_takes _) (then_keeps _ (mark _) (weaken _ (enclosed_takes _ (token_keeps _))) (weaken _ (mark_takes _))) ts rest p
+
+-- ---- what stands before the clauses
+
+-- `list_of_clauses(axioms,cnf).`
+pub list_head_keeps : Keeps (word words.ListOfClauses ⨾ enclosed (origin ⨾ mark Comma ⨾ word words.Cnf) ⨾ mark Dot)
+list_head_keeps = then_keeps (word _) _ (weaken _ (word_takes _)) (then_keeps _ (mark _) (weaken _ (enclosed_takes _ (then_keeps origin _ origin_keeps (then_keeps (mark _) (word _) (weaken _ (mark_takes _)) (weaken _ (word_takes _)))))) (weaken _ (mark_takes _)))
+
+pub head_keeps : Keeps head
+head_keeps = then_keeps (word _) _ (weaken _ (word_takes _)) (then_keeps _ (mark _) (weaken _ (enclosed_takes identifier (token_keeps _))) (weaken _ (mark_takes _)))
+
+pub descriptions_keep : Keeps descriptions
+descriptions_keep ts rest p = then_keeps (word _) _ (weaken _ (word_takes _)) (then_keeps (mark _) _ (weaken _ (mark_takes _)) (then_keeps _ list_end (each_keeps (λ item. description) (λ item. weaken _ description_takes) p.0) end_keeps)) ts rest p.1
+
+pub signature_keeps : (bytes : List ℕ) (symbols : List Declared) → Keeps (signature bytes symbols)
+signature_keeps bytes symbols ts rest (inl p) = nothing_keeps ts rest p.1
+signature_keeps bytes symbols ts rest (inr p) = then_keeps (word _) _ (weaken _ (word_takes _)) (then_keeps (mark _) _ (weaken _ (mark_takes _)) (then_keeps _ list_end (each_keeps (symbol_item bytes) (λ ds. weaken _ (symbol_item_takes bytes ds)) p.0) end_keeps)) ts rest p.2
