@@ -10,9 +10,18 @@ use Rattle.dfg_tokens.specs.declared.word.Word.TheVariants as words
 use Rattle.dfg_tokens.specs.declared.piece.Mark.{Mark}
 use Rattle.dfg_tokens.specs.declared.piece.Mark.TheVariants.{Comma, Dot}
 use Rattle.dfg_tokens.specs.declared.token.Token.{Token}
+use Rattle.dfg_tokens.specs.Tokens.{AreTokensOf}
 use Rattle.dfg_reader.specs.declared.formula.Formula.{Formula}
 use Rattle.dfg_reader.specs.declared.problem.Entry.{Entry}
 use Rattle.dfg_reader.specs.Grammar.{Phrase, ◌⨾◌, nothing, either, token, mark, word, each, each_behind_comma, separated, enclosed, arguments, symbol, application, term, atom, unsigned, negation, literal, body, label, identifier, text, list_end, origin, clause, clause_list, declaration, declarations, symbol_item, signature, description, descriptions, head}
+
+pub all_left : (bytes : List ℕ) (a b : List Token) → AreTokensOf bytes (a ++ b) → AreTokensOf bytes a
+all_left bytes [] b all = tt
+all_left bytes (t ∷ a) b all = (all.0, all_left bytes a b all.1)
+
+pub all_right : (bytes : List ℕ) (a b : List Token) → AreTokensOf bytes (a ++ b) → AreTokensOf bytes b
+all_right bytes [] b all = all
+all_right bytes (t ∷ a) b all = all_right bytes a b all.1
 
 -- the second list is the end of the first
 pub record Leaves (ts : List Token) (rest : List Token) : Type 0 where

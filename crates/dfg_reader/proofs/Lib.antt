@@ -3,6 +3,7 @@ pub mod Spelled
 pub mod Names
 pub mod Limits
 pub mod Kept
+pub mod Phrases
 pub mod Ordered
 pub mod Steps
 pub mod Fronts

@@ -1,8 +1,8 @@
 -- The symbols of what is written are those of the signature.
-use Rattle.std.proofs.Common.{◌≡◌, ◌==◌, eq-eqb, ℕ, zero, suc, ◌-◌, inl, inr, Bool, true, false, ◌&&◌, List, [], ◌∷◌, ◌++◌, length, slice_get, Result, Ok, Err, IfOk, refl, sym, ap, subst, ◌∙◌}
+use Rattle.std.proofs.Common.{◌≡◌, ◌==◌, eq-eqb, ℕ, zero, suc, ◌-◌, inl, inr, Bool, true, false, ◌&&◌, List, [], ◌∷◌, length, slice_get, Result, Ok, Err, IfOk, refl, sym, ap, ◌∙◌}
 use Rattle.std.proofs.lemmas.List.{length-map}
 use Rattle.std.proofs.lemmas.List.Folds.{list_all-map}
-use Rattle.std.specs.List.{list_all}
+use Rattle.std.specs.List.{list_all, AllByRecursion}
 use Rattle.spl_terms.specs.declared.term.Kind.{Kind}
 use Rattle.spl_terms.specs.declared.term.Kind.TheVariants.{Function, Predicate, Sort}
 use Rattle.spl_terms.specs.declared.term.Symbol.{Symbol}
@@ -21,30 +21,18 @@ use Rattle.dfg_reader.specs.declared.problem.Entry.{Entry}
 use Rattle.dfg_reader.specs.declared.problem.Problem.{Problem}
 use Rattle.dfg_reader.specs.Terms.{fits}
 use Rattle.dfg_reader.specs.OfSignature.{declares, is_declared, term_of_step, is_term_of, is_atom_of, formula_of_step, is_formula_of, AreOfSignature}
-use Rattle.dfg_reader.specs.Grammar.{Phrase, each, each_behind_comma, separated, arguments, IsSymbol, application, term, atom, unsigned, literal, body, clause, clause_list, joined, IsWritten}
-
-and_true : (a b : Bool) → a ≡ true → b ≡ true → (a && b) ≡ true
-and_true a b e h = rw (e, h) refl
+use Rattle.dfg_reader.proofs.Limits.{and_true}
+use Rattle.dfg_reader.proofs.Phrases.{arguments_hold, separated_hold, entries_hold}
+use Rattle.dfg_reader.specs.Grammar.{Phrase, IsSymbol, application, term, atom, unsigned, literal, body, clause, IsWritten}
 
 same_kind : (k : Kind) → kind_eq k k ≡ true
 same_kind Function = refl
 same_kind Predicate = refl
 same_kind Sort = refl
 
--- ---- what holds of each phrase
-
-module _ {X : Type 0} (P : X → Phrase) (test : X → Bool) (law : (x : X) (ts rest : List Token) → P x ts rest → test x ≡ true) where
-  behind_pass : (xs : List X) (ts rest : List Token) → each_behind_comma P xs ts rest → list_all test xs ≡ true
-  behind_pass [] ts rest p = refl
-  behind_pass (x ∷ xs) ts rest p = and_true (test x) (list_all test xs) (law x p.0 p.2.0 p.2.1) (behind_pass xs p.2.0 rest p.2.2)
-
-  separated_pass : (xs : List X) (ts rest : List Token) → separated P xs ts rest → list_all test xs ≡ true
-  separated_pass [] ts rest p = refl
-  separated_pass (x ∷ xs) ts rest p = and_true (test x) (list_all test xs) (law x ts p.0 p.1) (behind_pass xs p.0 rest p.2)
-
-  arguments_pass : (xs : List X) (ts rest : List Token) → arguments P xs ts rest → list_all test xs ≡ true
-  arguments_pass [] ts rest p = refl
-  arguments_pass (x ∷ xs) ts rest p = separated_pass (x ∷ xs) p.0 p.2.0 p.2.1
+all_pass : {X : Type 0} (test : X → Bool) (xs : List X) → AllByRecursion (λ x. test x ≡ true) xs → list_all test xs ≡ true
+all_pass test [] all = refl
+all_pass test (x ∷ xs) all = and_true (test x) (list_all test xs) all.0 (all_pass test xs all.1)
 
 module _ (bytes : List ℕ) (symbols : List Declared) where
   -- ---- terms and atoms
@@ -58,7 +46,7 @@ module _ (bytes : List ℕ) (symbols : List Declared) where
       → (s : Symbol) (args : List Term) (ts rest : List Token) → application bytes symbols in_term P s args ts rest → (is_declared symbols in_term s (length args) && list_all (is_term_of symbols) args) ≡ true
   application_of in_term P law s args ts rest p =
       let named = p.1.1 in
-      and_true (is_declared symbols in_term s (length args)) (list_all (is_term_of symbols) args) (symbol_declared in_term s (length args) named.0 named.1) (arguments_pass P (is_term_of symbols) law args p.0 rest p.2)
+      and_true (is_declared symbols in_term s (length args)) (list_all (is_term_of symbols) args) (symbol_declared in_term s (length args) named.0 named.1) (all_pass (is_term_of symbols) args (arguments_hold P (λ t. is_term_of symbols t ≡ true) law args p.0 rest p.2))
 
   applied : (f : Symbol) (args : List Term) → (is_declared symbols true f (length args) && list_all (is_term_of symbols) args) ≡ true → is_term_of symbols (App f args) ≡ true
   applied f args e =
@@ -91,7 +79,7 @@ module _ (bytes : List ℕ) (symbols : List Declared) where
   body_of f ts rest (inl p) = literal_of 1000 f ts rest p
   body_of f ts rest (inr p) =
       let inner = p.2.2 in
-      ap (is_formula_of symbols) (p.1 ∙ sym (rolls-Or p.0)) ∙ fold-roll-Formula Bool (formula_of_step symbols) (layer.Or p.0) ∙ list_all-map (λ b. b) (is_formula_of symbols) p.0 ∙ separated_pass (literal bytes symbols 999) (is_formula_of symbols) (literal_of 999) p.0 inner.0 inner.2.0 inner.2.1
+      ap (is_formula_of symbols) (p.1 ∙ sym (rolls-Or p.0)) ∙ fold-roll-Formula Bool (formula_of_step symbols) (layer.Or p.0) ∙ list_all-map (λ b. b) (is_formula_of symbols) p.0 ∙ all_pass (is_formula_of symbols) p.0 (separated_hold (literal bytes symbols 999) (λ g. is_formula_of symbols g ≡ true) (literal_of 999) p.0 inner.0 inner.2.0 inner.2.1)
 
   -- ---- entries
 
@@ -101,25 +89,8 @@ module _ (bytes : List ℕ) (symbols : List Declared) where
       let labelled = opened.2.1 in
       body_of e.formula opened.0 labelled.0 labelled.1
 
-  entries_of : (es : List Entry) (ts rest : List Token) → each (clause bytes symbols) es ts rest → AreOfSignature symbols es
-  entries_of [] ts rest p = tt
-  entries_of (e ∷ es) ts rest p =
-      (clause_of e ts p.0 p.1, entries_of es p.0 rest p.2)
-
-  all-append : (xs ys : List Entry) → AreOfSignature symbols xs → AreOfSignature symbols ys → AreOfSignature symbols (xs ++ ys)
-  all-append [] ys all more = more
-  all-append (x ∷ xs) ys all more = (all.0, all-append xs ys all.1 more)
-
-  lists_of : (groups : List (List Entry)) (ts rest : List Token) → each (clause_list bytes symbols) groups ts rest → AreOfSignature symbols (joined groups)
-  lists_of [] ts rest p = tt
-  lists_of (g ∷ groups) ts rest p =
-      let dot = p.1.2.2 in
-      all-append g (joined groups) (entries_of g dot.0 dot.2.0 dot.2.1) (lists_of groups p.0 rest p.2)
-
 pub of_signature : (bytes : List ℕ) (p : Problem) → IsWritten bytes p → AreOfSignature p.signature p.entries
-of_signature bytes p w =
-    let lists = w.4.2.2.2 in
-    subst (AreOfSignature p.signature) (sym lists.1.1) (lists_of bytes p.signature lists.1.0 w.4.2.2.0 lists.0 lists.1.2)
+of_signature bytes p w = entries_hold bytes p (λ e. is_formula_of p.signature e.formula ≡ true) (clause_of bytes p.signature) w
 
 pub of_signature-read : (bytes : List ℕ) (r : Result Problem InputError) → IfOk r (λ p. IsWritten bytes p) → IfOk r (λ p. AreOfSignature p.signature p.entries)
 of_signature-read bytes (Ok p) w = of_signature bytes p w

@@ -25,10 +25,10 @@ use Rattle.dfg_reader.specs.Symbols.{free_if, new_name_at, arity_of, arity_if, a
 use Rattle.dfg_reader.specs.GroundClauses.{formula_clauses, clauses, are_within_limits, HasLimits}
 use Rattle.dfg_reader.specs.Clauses.{body_at, within_limits, label_at, clause_at, clauses_head_at, is_refused_list, list_at}
 use Rattle.dfg_reader.specs.Problems.{is_text_item, is_status, status_at, description_at, descriptions_at, head_at, problem_at, problem}
-use Rattle.dfg_reader.specs.Grammar.{Phrase, ◌⨾◌, mark, word, token, any_word, enclosed, each, each_behind_comma, joined, IsNameOf, IsNumberOf, declaration, declarations, symbol_item, signature, is_description_word, is_status_word, description, descriptions, head, clause_list, IsSignature, IsWritten}
-use Rattle.dfg_reader.proofs.Kept.{bind_ok, chosen, ok_is, refused_not, fault_not, commas_keep, listed_keep, items_keep, all-push}
+use Rattle.dfg_reader.specs.Grammar.{Phrase, mark, word, token, any_word, each, each_behind_comma, joined, IsNameOf, IsNumberOf, declaration, declarations, symbol_item, signature, is_description_word, is_status_word, description, descriptions, head, clause_list, IsSignature, IsWritten}
+use Rattle.dfg_reader.proofs.Kept.{bind_ok, chosen, ok_is, refused_not, fault_not, commas_keep, listed_keep, items_keep, all-append, all-push}
 use Rattle.dfg_reader.proofs.Limits.{limits-push, none_within, clauses-none}
-use Rattle.dfg_reader.proofs.Fronts.{Keeps, weaken, token_takes, declaration_takes, symbol_item_takes, head_keeps, descriptions_keep}
+use Rattle.dfg_reader.proofs.Fronts.{all_right, Keeps, weaken, token_takes, declaration_takes, symbol_item_takes, head_keeps, descriptions_keep}
 use Rattle.dfg_reader.proofs.Stands.{spelled_is}
 use Rattle.dfg_reader.proofs.Names.{one_more_name}
 use Rattle.dfg_reader.proofs.InRow.{grown, lone, whole, fold_lone, fold_whole}
@@ -144,10 +144,6 @@ module _ (bytes : List ℕ) where
 
 -- ---- each name is of letters, digits and `_`
 
-all_right : (bytes : List ℕ) (a b : List Token) → AreTokensOf bytes (a ++ b) → AreTokensOf bytes b
-all_right bytes [] b all = all
-all_right bytes (t ∷ a) b all = all_right bytes a b all.1
-
 module _ (bytes : List ℕ) where
   own_after : (P : Phrase) → Keeps P → (ts rest : List Token) → P ts rest → AreTokensOf bytes ts → AreTokensOf bytes rest
   own_after P keeps ts rest p own = let l = keeps ts rest p in all_right bytes l.front rest (subst (AreTokensOf bytes) l.parts own)
@@ -192,14 +188,10 @@ module _ (bytes : List ℕ) where
   item_letters ds ts rest own (inl p) = declarations_letters words.Functions Function ds ts rest own p
   item_letters ds ts rest own (inr p) = declarations_letters words.Predicates Predicate ds ts rest own p
 
-  all-append : (xs ys : List Declared) → AllByRecursion HasLetters xs → AllByRecursion HasLetters ys → AllByRecursion HasLetters (xs ++ ys)
-  all-append [] ys all more = more
-  all-append (x ∷ xs) ys all more = (all.0, all-append xs ys all.1 more)
-
   groups_letters : (groups : List (List Declared)) (ts rest : List Token) → AreTokensOf bytes ts → each (symbol_item bytes) groups ts rest → AllByRecursion HasLetters (joined groups)
   groups_letters [] ts rest own p = tt
   groups_letters (g ∷ groups) ts rest own p =
-      all-append g (joined groups) (item_letters g ts p.0 own p.1) (groups_letters groups p.0 rest (own_after (symbol_item bytes g) (weaken (symbol_item bytes g) (symbol_item_takes bytes g)) ts p.0 p.1 own) p.2)
+      all-append HasLetters g (joined groups) (item_letters g ts p.0 own p.1) (groups_letters groups p.0 rest (own_after (symbol_item bytes g) (weaken (symbol_item bytes g) (symbol_item_takes bytes g)) ts p.0 p.1 own) p.2)
 
   signature_letters : (symbols : List Declared) (ts rest : List Token) → AreTokensOf bytes ts → signature bytes symbols ts rest → AllByRecursion HasLetters symbols
   signature_letters symbols ts rest own (inl p) = subst (AllByRecursion HasLetters) (sym p.0) tt

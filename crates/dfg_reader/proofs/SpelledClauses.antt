@@ -1,11 +1,10 @@
 -- Each clause of a problem is spelled by the bytes, from its place on.
-use Rattle.std.proofs.Common.{◌≡◌, ℕ, zero, suc, ◌-◌, ◌⊎◌, inl, inr, Bool, true, false, cond, List, [], ◌∷◌, ◌++◌, length, map, slice_get, Some, Result, Ok, Err, IfOk, refl, sym, ap, subst, ◌∙◌, append_assoc}
+use Rattle.std.proofs.Common.{◌≡◌, ℕ, zero, suc, ◌-◌, ◌⊎◌, inl, inr, Bool, true, false, List, [], ◌∷◌, ◌++◌, map, slice_get, Some, Result, Ok, Err, IfOk, refl, sym, ap, subst, ◌∙◌, append_assoc}
 use Rattle.std.proofs.lemmas.List.{map-append}
 use Rattle.std.proofs.lemmas.Slice.Eq.{bytes_eq-Decides}
-use Rattle.std.specs.List.{AllByRecursion}
 use Rattle.std.specs.Str.{bytes_eq}
 use Rattle.spl_terms.specs.declared.term.Symbol.{Symbol}
-use Rattle.spl_terms.specs.declared.term.Term.{Term, App}
+use Rattle.spl_terms.specs.declared.term.Term.{Term}
 use Rattle.spl_terms.specs.declared.atom.Atom.{Atom}
 use Rattle.spl_terms.proofs.TermLemmas.{fold-App}
 use Rattle.spl_symbols.specs.Symbols.{Declared}
@@ -16,19 +15,19 @@ use Rattle.dfg_tokens.specs.declared.piece.Mark.TheVariants.{OpenParenthesis, Cl
 use Rattle.dfg_tokens.specs.declared.piece.TokenKind.TheVariants as kinds
 use Rattle.dfg_tokens.specs.declared.token.Token.{Token}
 use Rattle.dfg_tokens.specs.Words.{spelling, first_word, word_of}
-use Rattle.dfg_tokens.specs.Tokens.{byte_of, token_bytes, tokens, IsSpelled, IsTokenOf, AreTokensOf}
+use Rattle.dfg_tokens.specs.Tokens.{token_bytes, tokens, IsSpelled, IsTokenOf, AreTokensOf}
 use Rattle.dfg_tokens.proofs.OwnBytes.{own_tokens}
 use Rattle.dfg_reader.specs.declared.fault.InputError.{InputError}
-use Rattle.dfg_reader.specs.declared.formula.Formula.{Formula, True, False, Not, Or, Formula-F, out-Formula}
-use Rattle.dfg_reader.specs.declared.formula.Formula as formulas
+use Rattle.dfg_reader.specs.declared.formula.Formula.{Formula, Formula-F, out-Formula}
 use Rattle.dfg_reader.specs.declared.formula.Formula.TheOpen as layer
 use Rattle.dfg_reader.specs.declared.formula.Formula.TheViews.{outs-True, outs-False, outs-Atom, outs-Not, outs-Or}
 use Rattle.dfg_reader.specs.declared.problem.Entry.{Entry}
 use Rattle.dfg_reader.specs.declared.problem.Problem.{Problem}
 use Rattle.dfg_reader.specs.Reading.{place}
-use Rattle.dfg_reader.specs.Grammar.{Phrase, ◌⨾◌, mark, word, token, each, each_behind_comma, separated, enclosed, arguments, application, term, atom, unsigned, literal, body, clause, clause_list, joined, IsWritten}
+use Rattle.dfg_reader.specs.Grammar.{Phrase, mark, word, token, each, each_behind_comma, separated, enclosed, arguments, application, term, atom, unsigned, literal, body, clause, clause_list, joined, IsWritten}
 use Rattle.dfg_reader.specs.Written.{Spelling, name_of, sign, behind_commas, in_parentheses, written_step, written_term, written_atom, written_unsigned, written_layer, written_literal, written_body, written_clause, IsSpelledIn, AreSpelledIn}
-use Rattle.dfg_reader.proofs.Fronts.{Leaves, leaves_then, weaken, head_keeps, descriptions_keep, signature_keeps, clause_takes, clause_list_takes, list_head_keeps}
+use Rattle.dfg_reader.proofs.Fronts.{all_left, all_right, Leaves, leaves_then, weaken, head_keeps, descriptions_keep, signature_keeps, clause_takes, clause_list_takes, list_head_keeps}
+use Rattle.dfg_reader.proofs.Kept.{bool_cases, all-append}
 
 -- ---- the tokens of a phrase, byte for byte
 
@@ -37,22 +36,10 @@ pub record Spells (bytes : List ℕ) (ts : List Token) (ws : Spelling) (rest : L
   pub parts : ts ≡ front ++ rest
   pub spelled : AreTokensOf bytes front → map (token_bytes bytes) front ≡ ws
 
-all_left : (bytes : List ℕ) (a b : List Token) → AreTokensOf bytes (a ++ b) → AreTokensOf bytes a
-all_left bytes [] b all = tt
-all_left bytes (t ∷ a) b all = (all.0, all_left bytes a b all.1)
-
-pub all_right : (bytes : List ℕ) (a b : List Token) → AreTokensOf bytes (a ++ b) → AreTokensOf bytes b
-all_right bytes [] b all = all
-all_right bytes (t ∷ a) b all = all_right bytes a b all.1
-
 name_at : (ds : List Declared) (i : ℕ) (d : Declared) → slice_get ds i ≡ Some d → name_of ds i ≡ d.name
 name_at [] i d e = absurd cc
 name_at (x ∷ ds) zero d e = let same : x ≡ d = cc in ap (λ (y : Declared). y.name) same
 name_at (x ∷ ds) (suc i) d e = name_at ds i d e
-
-bool_cases : (b : Bool) → (b ≡ true) ⊎ (b ≡ false)
-bool_cases true = inl refl
-bool_cases false = inr refl
 
 first_spelled : (ws : List Word) (text : List ℕ) → (first_word ws text ≡ words.Plain) ⊎ (spelling (first_word ws text) ≡ text)
 first_spelled [] text = inl refl
@@ -191,17 +178,13 @@ module _ (bytes : List ℕ) where
     clauses_spelled (e ∷ es) ts rest l p =
         (entry_spelled e ts p.0 l p.1, clauses_spelled es p.0 rest (leaves_then (tokens bytes) ts p.0 l (weaken _ (clause_takes bytes symbols e) ts p.0 p.1)) p.2)
 
-    all-append : (xs ys : List Entry) → AreSpelledIn bytes symbols xs → AreSpelledIn bytes symbols ys → AreSpelledIn bytes symbols (xs ++ ys)
-    all-append [] ys all more = more
-    all-append (x ∷ xs) ys all more = (all.0, all-append xs ys all.1 more)
-
     lists_spelled : (groups : List (List Entry)) (ts rest : List Token) → Leaves (tokens bytes) ts → each (clause_list bytes symbols) groups ts rest → AreSpelledIn bytes symbols (joined groups)
     lists_spelled [] ts rest l p = tt
     lists_spelled (g ∷ groups) ts rest l p =
         let list = p.1 in
         let dot = list.2.2 in
         let begun = leaves_then (tokens bytes) ts dot.0 l (list_head_keeps ts dot.0 (list.0, list.1, (list.2.0, list.2.1, dot.1))) in
-        all-append g (joined groups) (clauses_spelled g dot.0 dot.2.0 begun dot.2.1) (lists_spelled groups p.0 rest (leaves_then (tokens bytes) ts p.0 l (weaken _ (clause_list_takes bytes symbols g) ts p.0 list)) p.2)
+        all-append (IsSpelledIn bytes symbols) g (joined groups) (clauses_spelled g dot.0 dot.2.0 begun dot.2.1) (lists_spelled groups p.0 rest (leaves_then (tokens bytes) ts p.0 l (weaken _ (clause_list_takes bytes symbols g) ts p.0 list)) p.2)
 
 spelled-problem : (bytes : List ℕ) (p : Problem) → IsWritten bytes p → AreSpelledIn bytes p.signature p.entries
 spelled-problem bytes p w =

@@ -1,5 +1,5 @@
 -- One step of reading: a phrase of one token stands there.
-use Rattle.std.proofs.Common.{◌≡◌, ◌==◌, eq-eqb, ◌<◌, ◌⊎◌, inl, inr, Bool, true, false, cond, List, ◌∷◌, length, Result, Ok, refl, sym, ap, ◌∙◌, arith}
+use Rattle.std.proofs.Common.{◌≡◌, ◌==◌, eq-eqb, ◌<◌, inl, inr, Bool, true, false, cond, List, ◌∷◌, length, Result, Ok, refl, sym, ap, ◌∙◌, arith}
 use Rattle.std.specs.Str.{bytes_eq}
 use Rattle.std.proofs.lemmas.Slice.Eq.{bytes_eq-Decides}
 use Rattle.dfg_tokens.specs.declared.word.Word.{Word}
@@ -14,7 +14,7 @@ use Rattle.dfg_reader.specs.declared.fault.ReadFault.{ReadFault}
 use Rattle.dfg_reader.specs.declared.fault.FaultKind.TheVariants.{Unexpected}
 use Rattle.dfg_reader.specs.Reading.{◌>>=◌, tail, refuse, is_reserved, kind_is_mark, kind_is_word, kind_is_name, kind_is_identifier, kind_is_text, next_is, next_mark, next_word, next_name, mark_at, word_at, taken, identifier_at, name_at, text_at}
 use Rattle.dfg_reader.specs.Grammar.{token, mark, word, text}
-use Rattle.dfg_reader.proofs.Kept.{done}
+use Rattle.dfg_reader.proofs.Kept.{bool_cases, done}
 
 -- ---- how reading goes on
 
@@ -26,10 +26,6 @@ when_true b x y z e h = ap (λ q. cond q x y) e ∙ h
 
 pub when_false : {A : Type 0} (b : Bool) (x y z : A) → b ≡ false → y ≡ z → cond b x y ≡ z
 when_false b x y z e h = ap (λ q. cond q x y) e ∙ h
-
-pub bool_cases : (b : Bool) → (b ≡ true) ⊎ (b ≡ false)
-bool_cases true = inl refl
-bool_cases false = inr refl
 
 -- ---- a token stands there
 

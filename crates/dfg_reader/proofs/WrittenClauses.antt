@@ -1,5 +1,5 @@
 -- A clause that is written is read, and so is a list of clauses.
-use Rattle.std.proofs.Common.{◌≡◌, ℕ, ◌+◌, ◌-◌, inl, inr, Bool, true, false, cond, ◌&&◌, ◌||◌, nat_le, List, [], ◌∷◌, ◌++◌, length, Ok, refl, sym, ap, subst, ◌∙◌, length-append, arith}
+use Rattle.std.proofs.Common.{◌≡◌, ℕ, ◌+◌, ◌-◌, inl, inr, Bool, true, false, ◌||◌, nat_le, List, [], ◌∷◌, ◌++◌, length, Ok, refl, sym, ap, subst, ◌∙◌, length-append, arith}
 use Rattle.std.proofs.lemmas.Bool.Decides.{nat_tests}
 use Rattle.std.proofs.lemmas.List.Concat.{flat_map-append}
 use Rattle.std.proofs.lemmas.List.Folds.{list_all-append}
@@ -20,7 +20,7 @@ use Rattle.dfg_reader.specs.Reading.{place, is_reserved, next_mark, next_word, m
 use Rattle.dfg_reader.specs.GroundClauses.{formula_clauses, role_clauses, entry_clauses, clauses, is_small, are_within_limits, HasLimits}
 use Rattle.dfg_reader.specs.Clauses.{unsigned_at, literal_at, body_at, within_limits, label_at, clause_at, origin_at, form_at, clauses_head_at, is_refused_list, list_at}
 use Rattle.dfg_reader.specs.Grammar.{◌⨾◌, enclosed, mark, word, atom, unsigned, negation, literal, body, label, clause, origin, clause_list, IsSignature}
-use Rattle.dfg_reader.proofs.Limits.{clauses-push}
+use Rattle.dfg_reader.proofs.Limits.{both, and_parts, clauses-push}
 use Rattle.dfg_reader.proofs.Steps.{then_ok, when_true, when_false, token_tail, mark_next, other_mark, mark_read, next_word_is, other_word, word_next, word_read, identifier_read, name_no_word}
 use Rattle.dfg_reader.proofs.Fronts.{literal_takes, clause_takes}
 use Rattle.dfg_reader.proofs.InRow.{Begins, begins_earlier, grown, lone, fold_lone, listed_read}
@@ -28,17 +28,9 @@ use Rattle.dfg_reader.proofs.WrittenTerms.{values_read, closing_ends, atom_read}
 
 -- ---- limits
 
-and_left : (a b : Bool) → (a && b) ≡ true → a ≡ true
-and_left true b e = refl
-and_left false b e = absurd cc
-
 or_true : (a b : Bool) → b ≡ true → (a || b) ≡ true
 or_true true b e = refl
 or_true false b e = e
-
-both : (a b : Bool) → cond a b false ≡ true → (a ≡ true) × (b ≡ true)
-both true b e = (refl, e)
-both false b e = absurd cc
 
 fewer : (m n : ℕ) → nat_le (m + n) 65536 ≡ true → nat_le m 65536 ≡ true
 fewer m n e = grind (arith, nat_tests)
@@ -48,7 +40,7 @@ limits-prefix : (cs ds : List Clause) → are_within_limits (cs ++ ds) ≡ true 
 unfolding are_within_limits
 limits-prefix cs ds e =
     let h = both (nat_le (length (cs ++ ds)) 65536) (list_all is_small (cs ++ ds)) e in
-    when_true _ _ _ _ (fewer (length cs) (length ds) (ap (λ n. nat_le n 65536) (sym (length-append cs ds)) ∙ h.0)) (and_left (list_all is_small cs) (list_all is_small ds) (sym (list_all-append is_small cs ds) ∙ h.1))
+    when_true _ _ _ _ (fewer (length cs) (length ds) (ap (λ n. nat_le n 65536) (sym (length-append cs ds)) ∙ h.0)) ((and_parts (list_all is_small cs) (list_all is_small ds) (sym (list_all-append is_small cs ds) ∙ h.1)).0)
 
 within_prefix : (all : List Entry) → HasLimits all → (es : List Entry) (e : Entry) → e.role ≡ roles.Clause → Begins all (es ++ e ∷ []) → are_within_limits (clauses es ++ formula_clauses e.formula) ≡ true
 unfolding clauses

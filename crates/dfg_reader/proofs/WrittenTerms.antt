@@ -1,5 +1,5 @@
 -- A term that is written is read, and so are an atom and a literal.
-use Rattle.std.proofs.Common.{◌≡◌, eq-eqb, ℕ, zero, suc, ◌-◌, ◌≤◌, ◌<◌, Bool, true, false, ◌&&◌, List, [], ◌∷◌, length, slice_get, Some, option_map, Result, Ok, refl, sym, ap, subst, ◌∙◌, arith}
+use Rattle.std.proofs.Common.{◌≡◌, eq-eqb, ℕ, zero, suc, ◌-◌, ◌≤◌, ◌<◌, Bool, true, false, List, [], ◌∷◌, length, slice_get, Some, option_map, Result, Ok, refl, sym, ap, subst, ◌∙◌, arith}
 use Rattle.std.proofs.lemmas.Bool.Decides.{nat_tests}
 use Rattle.std.proofs.lemmas.Str.{IsUtf8-from_ascii, is_utf8-from_IsUtf8}
 use Rattle.std.specs.List.{list_all, AllByRecursion}
@@ -17,6 +17,7 @@ use Rattle.dfg_reader.specs.Reading.{next_mark, bytes_of, spelled_at, adding, co
 use Rattle.dfg_reader.specs.Symbols.{with_arity, lookup}
 use Rattle.dfg_reader.specs.Terms.{TermReader, fitting, symbol_named, counted, terms_at, arguments_at, application_at, term_at, atom_at}
 use Rattle.dfg_reader.specs.Grammar.{Phrase, mark, separated, arguments, IsSymbol, application, term, atom, IsSignature}
+use Rattle.dfg_reader.proofs.Limits.{and_parts}
 use Rattle.dfg_reader.proofs.Steps.{then_ok, when_true, when_false, token_tail, mark_next, other_mark, mark_read, name_read}
 use Rattle.dfg_reader.proofs.Fronts.{Takes, term_takes}
 use Rattle.dfg_reader.proofs.InRow.{Ends, separated_read, grown, lone, fold_lone, Anything}
@@ -25,10 +26,6 @@ use Rattle.dfg_reader.proofs.InRow.{Ends, separated_read, grown, lone, fold_lone
 
 letter_small : (b : ℕ) → is_letter b ≡ true → b < 128
 letter_small b e = grind (arith, nat_tests)
-
-and_parts : (a b : Bool) → (a && b) ≡ true → (a ≡ true) × (b ≡ true)
-and_parts true b e = (refl, e)
-and_parts false b e = absurd cc
 
 letters_ascii : (text : List ℕ) → AreLetters text → IsAscii text
 letters_ascii [] all i = omega arith

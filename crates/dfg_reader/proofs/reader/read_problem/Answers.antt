@@ -16,7 +16,7 @@ pub returns-clause-every : goal.returns-clause-every
 returns-clause-every c = every-read c.args.bytes.now c.as_slice.result.now c.problem.result (c.as_slice.ensures.value ∙ c.in_ok-tokens.ensures.exact) c.problem.ensures.given
 
 pub returns-clause-ordered : goal.returns-clause-ordered
-returns-clause-ordered c = in_order-read c.args.bytes.now c.as_slice.result.now c.problem.result (c.as_slice.ensures.value ∙ c.in_ok-tokens.ensures.exact) c.problem.ensures.given
+returns-clause-ordered c = in_order-read c.args.bytes.now c.problem.result (written-read c.args.bytes.now c.as_slice.result.now c.problem.result (c.as_slice.ensures.value ∙ c.in_ok-tokens.ensures.exact) c.problem.ensures.given)
 
 pub returns-clause-spelled : goal.returns-clause-spelled
 returns-clause-spelled c = spelled-read c.args.bytes.now c.problem.result (written-read c.args.bytes.now c.as_slice.result.now c.problem.result (c.as_slice.ensures.value ∙ c.in_ok-tokens.ensures.exact) c.problem.ensures.given)
