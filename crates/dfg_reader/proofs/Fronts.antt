@@ -1,5 +1,5 @@
 -- A phrase takes tokens from the front.
-use Rattle.std.proofs.Common.{◌≡◌, ℕ, zero, suc, ◌-◌, ◌<◌, inl, inr, Bool, List, [], ◌∷◌, ◌++◌, length, refl, sym, ap, ◌∙◌, append_assoc, length-append, arith}
+use Rattle.std.proofs.Common.{◌≡◌, ℕ, zero, suc, ◌-◌, ◌<◌, inl, inr, Bool, List, [], ◌∷◌, ◌++◌, length, sym, ap, ◌∙◌, append_assoc, length-append, arith}
 use Rattle.spl_terms.specs.declared.term.Kind.{Kind}
 use Rattle.spl_terms.specs.declared.term.Symbol.{Symbol}
 use Rattle.spl_terms.specs.declared.term.Term.{Term}
@@ -42,9 +42,6 @@ Takes P = (ts rest : List Token) → P ts rest → LeavesFewer ts rest
 
 pub fewer : (ts rest : List Token) → LeavesFewer ts rest → length rest < length ts
 fewer ts rest l = omega (arith, ap length l.parts, length-append l.front rest)
-
-pub leaves_all : (ts : List Token) → Leaves ts ts
-leaves_all ts = record { front = []; parts = refl }
 
 pub leaves_then : (a b c : List Token) → Leaves a b → Leaves b c → Leaves a c
 leaves_then a b c p q = record { front = p.front ++ q.front; parts = p.parts ∙ ap (λ (ts : List Token). p.front ++ ts) q.parts ∙ sym (append_assoc p.front q.front c) }

@@ -48,10 +48,6 @@ pub other_mark : (m n : Mark) (ts rest : List Token) → mark n ts rest → (byt
 unfolding next_mark
 other_mark m n ts rest p e = next_kind (kind_is_mark m) (kinds.Mark n) ts rest p ∙ e
 
-pub word_no_mark : (m : Mark) (w : Word) (ts rest : List Token) → word w ts rest → next_mark m ts ≡ false
-unfolding next_mark
-word_no_mark m w ts rest p = next_kind (kind_is_mark m) (kinds.Word w) ts rest p
-
 pub mark_read : (m : Mark) (ts rest : List Token) → mark m ts rest → mark_at m ts ≡ Ok rest
 unfolding mark_at
 mark_read m ts rest p = when_true (next_mark m ts) (Ok (tail ts)) (refuse Unexpected ts) (Ok rest) (mark_next m ts rest p) (ap done rest_is)
@@ -74,10 +70,6 @@ other_word w v ts rest p e = next_word_is w v ts rest p ∙ e
 
 pub word_next : (w : Word) (ts rest : List Token) → word w ts rest → next_word w ts ≡ true
 word_next w ts rest p = next_word_is w w ts rest p ∙ (bytes_eq-Decides (spelling w) (spelling w)).1 refl
-
-pub mark_no_word : (w : Word) (m : Mark) (ts rest : List Token) → mark m ts rest → next_word w ts ≡ false
-unfolding next_word kind_is_word
-mark_no_word w m ts rest p = next_kind (kind_is_word w) (kinds.Mark m) ts rest p
 
 pub word_read : (w : Word) (ts rest : List Token) → word w ts rest → word_at w ts ≡ Ok rest
 unfolding word_at

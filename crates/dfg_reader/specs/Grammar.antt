@@ -132,6 +132,7 @@ unsigned bytes symbols depth f ts rest = ((f ≡ True) × word words.True ts res
 abbrev pub negation : List ℕ → List Declared → ℕ → Formula → Phrase
 negation bytes symbols depth f ts rest = (g : Formula) × (f ≡ Not g) × (word words.Not ⨾ enclosed (unsigned bytes symbols (depth - 1) g)) ts rest
 
+-- one of both, which nests at most so deep
 abbrev pub literal : List ℕ → List Declared → ℕ → Formula → Phrase
 literal bytes symbols depth f = either (unsigned bytes symbols depth f) (negation bytes symbols depth f)
 
