@@ -8,7 +8,7 @@ use Rattle.dfg_tokens.specs.declared.piece.Mark.TheVariants.{Comma, Dot}
 use Rattle.dfg_reader.specs.declared.fault.ReadFault.{ReadFault}
 use Rattle.dfg_reader.specs.declared.fault.FaultKind.{FaultKind}
 use Rattle.dfg_reader.specs.declared.fault.FaultKind.TheVariants.{Unexpected}
-use Rattle.dfg_reader.specs.Reading.{◌>>=◌, Reader, tail, refuse, fault, next_mark, next_word, mark_at, adding, commas, items, listed}
+use Rattle.dfg_reader.specs.Reading.{◌>>=◌, Reader, tail, refuse, fault, next_mark, next_word, mark_at, commas, items, listed}
 
 pub bind_ok : {A B : Type 0} (r : Result A ReadFault) (f : A → Result B ReadFault) (y : B) → (r >>= f) ≡ Ok y → (x : A) × (r ≡ Ok x) × (f x ≡ Ok y)
 bind_ok (Ok x) f y e = (x, refl, e)
@@ -58,15 +58,14 @@ module _ {S : Type 0} (I : S → Type 0) (read : Reader S) (keeps : (s : S) (ts 
       let b = bind_ok (mark_at Dot (tail a.0.1)) (λ rest. Ok (a.0.0, rest)) y a.2 in
       subst (λ (q : S × List Token). I q.0) (ok_is (a.0.0, b.0) y b.2) (items_keep words.EndOfList (length ts) s ts a.0 i a.1)
 
+pub bool_cases : (b : Bool) → (b ≡ true) ⊎ (b ≡ false)
+bool_cases true = inl refl
+bool_cases false = inr refl
+
+pub all-append : {X : Type 0} (P : X → Type 0) (xs ys : List X) → AllByRecursion P xs → AllByRecursion P ys → AllByRecursion P (xs ++ ys)
+all-append P [] ys all more = more
+all-append P (x ∷ xs) ys all more = (all.0, all-append P xs ys all.1 more)
+
 pub all-push : {X : Type 0} (P : X → Type 0) (xs : List X) (x : X) → AllByRecursion P xs → P x → AllByRecursion P (xs ++ x ∷ [])
 all-push P [] x all p = (p, tt)
 all-push P (y ∷ xs) x all p = (all.0, all-push P xs x all.1 p)
-
--- values with commas between them all have what each has
-pub each_read : {X : Type 0} (P : X → Type 0) (read : List Token → Result (X × List Token) ReadFault) → ((ts : List Token) (x : X × List Token) → read ts ≡ Ok x → P x.0)
-    → (k : ℕ) (ts : List Token) (y : List X × List Token) → commas (adding read) k [] ts ≡ Ok y → AllByRecursion P y.0
-each_read {X} P read has k ts y e =
-    commas_keep (AllByRecursion P) (adding read)
-    (λ s us x all r. (let a = bind_ok (read us) (λ v. Ok (s ++ v.0 ∷ [], v.1)) x r in
-    subst (λ (q : List X × List Token). AllByRecursion P q.0) (ok_is (s ++ a.0.0 ∷ [], a.0.1) x a.2) (all-push P s a.0.0 all (has us a.0 a.1))))
-    k [] ts y tt e

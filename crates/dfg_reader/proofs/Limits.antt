@@ -1,5 +1,5 @@
 -- Clauses within the limits, one more at a time.
-use Rattle.std.proofs.Common.{◌≡◌, ℕ, zero, suc, ◌+◌, ◌≤◌, ◌<◌, ◌⊎◌, inl, inr, Bool, true, false, cond, ◌&&◌, nat_le, nat_lt, List, [], ◌∷◌, ◌++◌, length, drop, fold, get_or, slice_get, Some, Err, refl, sym, ap, ◌∙◌, length-append, arith}
+use Rattle.std.proofs.Common.{◌≡◌, ℕ, zero, suc, ◌+◌, ◌≤◌, ◌<◌, inl, inr, Bool, true, false, cond, ◌&&◌, nat_le, nat_lt, List, [], ◌∷◌, ◌++◌, length, drop, fold, get_or, slice_get, Some, Err, refl, sym, ap, ◌∙◌, length-append, arith}
 use Rattle.std.proofs.lemmas.List.{append-nil, at_drop_more, at_drop_all}
 use Rattle.std.proofs.lemmas.List.Concat.{flat_map-append}
 use Rattle.std.proofs.lemmas.List.Folds.{list_all-append}
@@ -18,6 +18,7 @@ use Rattle.dfg_reader.specs.declared.formula.Formula.TheOpen as layer
 use Rattle.dfg_reader.specs.declared.problem.Role.TheVariants as roles
 use Rattle.dfg_reader.specs.declared.problem.Entry.{Entry}
 use Rattle.dfg_reader.specs.GroundClauses.{is_true_literal, negated_part, with_negated, with_layer, with_literal, no_literals, literals, formula_clauses, entry_clauses, clauses, is_small, are_within_limits, HasLimits}
+use Rattle.dfg_reader.proofs.Kept.{bool_cases}
 
 -- ---- clauses of entries
 
@@ -41,7 +42,7 @@ gives_one f e = rw e refl
 
 -- ---- limits
 
-both : (a b : Bool) → cond a b false ≡ true → (a ≡ true) × (b ≡ true)
+pub both : (a b : Bool) → cond a b false ≡ true → (a ≡ true) × (b ≡ true)
 both true b e = (refl, e)
 both false b e = absurd cc
 
@@ -66,7 +67,7 @@ is_small-false c h = grind (arith, nat_tests)
 counts : (n : ℕ) (b : Bool) → b ≡ true → nat_lt n 65536 ≡ cond (nat_le (n + 1) 65536) b false
 counts n b e = rw e (grind (arith, nat_tests))
 
-and_true : (a b : Bool) → a ≡ true → b ≡ true → (a && b) ≡ true
+pub and_true : (a b : Bool) → a ≡ true → b ≡ true → (a && b) ≡ true
 and_true a b e h = rw (e, h) refl
 
 and_false : (a b : Bool) → b ≡ false → (a && (b && true)) ≡ false
@@ -90,10 +91,6 @@ too_large cs c h =
     rw large (never (nat_le (length (cs ++ c ∷ [])) 65536))
 
 -- ---- literals only make a clause larger
-
-bool_cases : (b : Bool) → (b ≡ true) ⊎ (b ≡ false)
-bool_cases true = inl refl
-bool_cases false = inr refl
 
 with_atom-grows : (c : Clause) (part : Part) (a : Atom) → clause_symbols c ≤ clause_symbols (with_atom c part a)
 with_atom-grows c part a =
@@ -142,7 +139,7 @@ already_large c fs i f all h e so_far large =
 pub entry-next : (es : List Entry) (i : ℕ) (e : Entry) → i < length es → e ≡ get_or es i e → clauses (drop i es) ≡ entry_clauses e ++ clauses (drop (i + 1) es)
 entry-next es i e h is = at_drop_more clauses es i e h ∙ ap (λ d. clauses (d ∷ drop (i + 1) es)) (sym is) ∙ clauses-next (drop (i + 1) es) e
 
-and_parts : (a b : Bool) → (a && b) ≡ true → (a ≡ true) × (b ≡ true)
+pub and_parts : (a b : Bool) → (a && b) ≡ true → (a ≡ true) × (b ≡ true)
 and_parts true b e = (refl, e)
 and_parts false b e = absurd cc
 

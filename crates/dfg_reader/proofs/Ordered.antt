@@ -1,10 +1,9 @@
 -- The clauses of a problem are in order: repeated atoms are dropped, and there is no variable.
-use Rattle.std.proofs.Common.{◌≡◌, ℕ, zero, suc, ◌-◌, inl, inr, Bool, true, false, cond, List, [], ◌∷◌, ◌++◌, length, map, fold, Result, Ok, Err, IfOk, refl, sym, ap, subst, ◌∙◌}
+use Rattle.std.proofs.Common.{◌≡◌, ℕ, zero, suc, ◌-◌, inl, inr, Bool, true, false, cond, List, [], ◌∷◌, ◌++◌, map, fold, Result, Ok, Err, IfOk, refl, sym, ap, subst, ◌∙◌}
 use Rattle.std.proofs.lemmas.List.{map-append}
 use Rattle.std.proofs.lemmas.List.Sums.{fold-append}
 use Rattle.std.specs.Bool.{⊤}
 use Rattle.std.specs.List.{list_any, flat_map, AllByRecursion}
-use Rattle.spl_terms.specs.declared.term.Symbol.{Symbol}
 use Rattle.spl_terms.specs.declared.term.Term.{Term, Var, App}
 use Rattle.spl_terms.specs.declared.atom.Atom.{Atom}
 use Rattle.spl_terms.specs.declared.atom.Atom.TheVariants.{Holds}
@@ -15,13 +14,8 @@ use Rattle.spl_terms.specs.Terms.{replace_step, replace}
 use Rattle.spl_terms.specs.Clauses.{is_same, added, distinct, with_atom, at_lists, replace_in_atom, replace_in, number_in, renumbered, in_order}
 use Rattle.spl_terms.proofs.TermLemmas.{fold-App}
 use Rattle.spl_symbols.specs.Symbols.{Declared}
-use Rattle.dfg_tokens.specs.declared.piece.Mark.TheVariants.{OpenParenthesis, CloseParenthesis, Dot}
-use Rattle.dfg_tokens.specs.declared.word.Word.TheVariants as words
 use Rattle.dfg_tokens.specs.declared.token.Token.{Token}
-use Rattle.dfg_tokens.specs.Tokens.{tokens}
 use Rattle.dfg_reader.specs.declared.fault.InputError.{InputError}
-use Rattle.dfg_reader.specs.declared.fault.FaultKind.TheVariants.{OutsideProfile, LimitReached}
-use Rattle.dfg_reader.specs.declared.fault.Limit.TheVariants as limits
 use Rattle.dfg_reader.specs.declared.formula.Formula.{Formula, True, False, Not, Or, Formula-F, out-Formula}
 use Rattle.dfg_reader.specs.declared.formula.Formula as formulas
 use Rattle.dfg_reader.specs.declared.formula.Formula.TheOpen as layer
@@ -29,13 +23,10 @@ use Rattle.dfg_reader.specs.declared.formula.Formula.TheViews.{outs-True, outs-F
 use Rattle.dfg_reader.specs.declared.problem.Role.TheVariants as roles
 use Rattle.dfg_reader.specs.declared.problem.Entry.{Entry}
 use Rattle.dfg_reader.specs.declared.problem.Problem.{Problem}
-use Rattle.dfg_reader.specs.Reading.{◌>>=◌, Gives, place, tail, refuse, fault, next_mark, next_word, mark_at, word_at, name_at, items, listed}
-use Rattle.dfg_reader.specs.Symbols.{signature_at}
-use Rattle.dfg_reader.specs.Terms.{TermReader, symbol_named, counted, too_deep, terms_at, arguments_at, application_at, term_at, atom_at}
 use Rattle.dfg_reader.specs.GroundClauses.{is_true_literal, negated_part, with_negated, with_layer, with_literal, no_literals, literals, literals_in, clause_of_literals, role_clauses, entry_clauses, clauses, AreInOrder}
-use Rattle.dfg_reader.specs.Clauses.{unsigned_at, literal_at, literals_at, body_at, within_limits, label_at, clause_at, clauses_head_at, is_refused_list, list_at}
-use Rattle.dfg_reader.specs.Problems.{descriptions_at, head_at, problem_at, problem}
-use Rattle.dfg_reader.proofs.Kept.{bind_ok, chosen, ok_is, refused_not, fault_not, items_keep, listed_keep, all-push, each_read}
+use Rattle.dfg_reader.specs.Grammar.{term, atom, unsigned, literal, body, clause, IsWritten}
+use Rattle.dfg_reader.proofs.Kept.{all-append}
+use Rattle.dfg_reader.proofs.Phrases.{arguments_hold, separated_hold, entries_hold}
 
 -- ---- terms without variables stay as they are
 
@@ -43,55 +34,25 @@ all_mapped : {X : Type 0} (f : X → X) (xs : List X) → AllByRecursion (λ x. 
 all_mapped f [] all = refl
 all_mapped f (x ∷ xs) all = λ i. all.0 i ∷ all_mapped f xs all.1 i
 
-deep_not : (ts : List Token) (y : Term × List Token) → too_deep ts ≡ Ok y → ⊥
-unfolding too_deep
-deep_not ts y e =
-    let a = bind_ok (name_at ts) (λ name. fault name.0.at (LimitReached limits.Depth)) y e in
-    fault_not a.0.0.at (LimitReached limits.Depth) y a.2
-
 module _ (h : ℕ → Term) where
   abbrev StaysTerm : Term → Type 0
   StaysTerm t = replace h t ≡ t
 
-  arguments_stay : (read : TermReader) → ((ts : List Token) (x : Term × List Token) → read ts ≡ Ok x → StaysTerm x.0)
-      → (ts : List Token) (y : List Term × List Token) → arguments_at read ts ≡ Ok y → AllByRecursion StaysTerm y.0
-  unfolding arguments_at
-  arguments_stay read has ts y e =
-      elim (chosen (next_mark OpenParenthesis ts) (terms_at read (tail ts) >>= λ x. mark_at CloseParenthesis x.1 >>= λ rest. Ok (x.0, rest)) (Ok ([], ts)) (Ok y) e) [
-        | inl c ↦ (let a = bind_ok (terms_at read (tail ts)) (λ x. mark_at CloseParenthesis x.1 >>= λ rest. Ok (x.0, rest)) y c.1 in
-            let b = bind_ok (mark_at CloseParenthesis a.0.1) (λ rest. Ok (a.0.0, rest)) y a.2 in
-            subst (λ (q : List Term × List Token). AllByRecursion StaysTerm q.0) (ok_is (a.0.0, b.0) y b.2) (each_read StaysTerm read has (length (tail ts)) (tail ts) a.0 a.1))
-        | inr c ↦ subst (λ (q : List Term × List Token). AllByRecursion StaysTerm q.0) (ok_is ([], ts) y c.1) tt
-      ]
-
-  application_stays : (bytes : List ℕ) (symbols : List Declared) (in_term : Bool) (read : TermReader) → ((ts : List Token) (x : Term × List Token) → read ts ≡ Ok x → StaysTerm x.0)
-      → (ts : List Token) (y : Symbol × List Term × List Token) → application_at bytes symbols in_term read ts ≡ Ok y → AllByRecursion StaysTerm y.1
-  unfolding application_at
-  application_stays bytes symbols in_term read has ts y e =
-      let b = bind_ok (name_at ts) (λ name. symbol_named bytes symbols in_term name.0 >>= λ f. arguments_at read name.1 >>= λ args. counted name.0.at f (length args.0) >>= λ fine. Ok (f.symbol, args.0, args.1)) y e in
-      let c = bind_ok (symbol_named bytes symbols in_term b.0.0) (λ f. arguments_at read b.0.1 >>= λ args. counted b.0.0.at f (length args.0) >>= λ fine. Ok (f.symbol, args.0, args.1)) y b.2 in
-      let g = bind_ok (arguments_at read b.0.1) (λ args. counted b.0.0.at c.0 (length args.0) >>= λ fine. Ok (c.0.symbol, args.0, args.1)) y c.2 in
-      let k = bind_ok (counted b.0.0.at c.0 (length g.0.0)) (λ fine. Ok (c.0.symbol, g.0.0, g.0.1)) y g.2 in
-      subst (λ (q : Symbol × List Term × List Token). AllByRecursion StaysTerm q.1) (ok_is (c.0.symbol, g.0.0, g.0.1) y k.2) (arguments_stay read has b.0.1 g.0 g.1)
-
-  term_stays : (bytes : List ℕ) (symbols : List Declared) (d : ℕ) (ts : List Token) (y : Term × List Token) → term_at bytes symbols d ts ≡ Ok y → StaysTerm y.0
-  unfolding term_at
-  term_stays bytes symbols zero ts y e = absurd (deep_not ts y e)
-  term_stays bytes symbols (suc d) ts y e =
-      let a = bind_ok (application_at bytes symbols true (term_at bytes symbols d) ts) (λ x. Ok (App x.0 x.1, x.2)) y e in
-      let args = application_stays bytes symbols true (term_at bytes symbols d) (term_stays bytes symbols d) ts a.0 a.1 in
-      let stays : StaysTerm (App a.0.0 a.0.1) = fold-App (replace_step h) a.0.0 a.0.1 ∙ ap (App a.0.0) (all_mapped (replace h) a.0.1 args) in
-      subst (λ (q : Term × List Token). StaysTerm q.0) (ok_is (App a.0.0 a.0.1, a.0.2) y a.2) stays
+  module _ (bytes : List ℕ) (symbols : List Declared) where
+    term_stays : (depth : ℕ) (t : Term) (ts rest : List Token) → term bytes symbols depth t ts rest → StaysTerm t
+    unfolding term
+    term_stays zero t ts rest p = absurd p
+    term_stays (suc depth) t ts rest p =
+        let args = arguments_hold (term bytes symbols depth) StaysTerm (term_stays depth) p.1 p.3.0 rest p.3.2 in
+        subst StaysTerm (sym p.2) (fold-App (replace_step h) p.0 p.1 ∙ ap (App p.0) (all_mapped (replace h) p.1 args))
 
   abbrev StaysAtom : Atom → Type 0
   StaysAtom a = replace_in_atom h a ≡ a
 
-  atom_stays : (bytes : List ℕ) (symbols : List Declared) (d : ℕ) (ts : List Token) (y : Atom × List Token) → atom_at bytes symbols d ts ≡ Ok y → StaysAtom y.0
-  unfolding atom_at
-  atom_stays bytes symbols d ts y e =
-      let a = bind_ok (application_at bytes symbols false (term_at bytes symbols d) ts) (λ x. Ok (Holds x.0 x.1, x.2)) y e in
-      let args = application_stays bytes symbols false (term_at bytes symbols d) (term_stays bytes symbols d) ts a.0 a.1 in
-      subst (λ (q : Atom × List Token). StaysAtom q.0) (ok_is (Holds a.0.0 a.0.1, a.0.2) y a.2) (ap (Holds a.0.0) (all_mapped (replace h) a.0.1 args))
+  atom_stays : (bytes : List ℕ) (symbols : List Declared) (depth : ℕ) (a : Atom) (ts rest : List Token) → atom bytes symbols depth a ts rest → StaysAtom a
+  atom_stays bytes symbols depth a ts rest p =
+      let args = arguments_hold (term bytes symbols (depth - 1)) StaysTerm (term_stays bytes symbols (depth - 1)) p.1 p.3.0 rest p.3.2 in
+      subst StaysAtom (sym p.2) (ap (Holds p.0) (all_mapped (replace h) p.1 args))
 
   -- ---- literals
 
@@ -119,20 +80,10 @@ module _ (h : ℕ → Term) where
   lone_stays : (a : Atom) → StaysAtom a → StaysUnsigned (formulas.Atom a)
   lone_stays a s = (subst StaysLayer (sym (outs-Atom a)) s, subst StaysInner (sym (outs-Atom a)) s, ap (literals_in (formulas.Atom a)) (outs-Atom a))
 
-  unsigned_stays : (bytes : List ℕ) (symbols : List Declared) (d : ℕ) (ts : List Token) (y : Formula × List Token) → unsigned_at bytes symbols d ts ≡ Ok y → StaysUnsigned y.0
-  unfolding unsigned_at
-  unsigned_stays bytes symbols d ts y e =
-      elim (chosen (next_word words.True ts) (Ok (True, tail ts)) _ (Ok y) e) [
-        | inl c ↦ subst (λ (q : Formula × List Token). StaysUnsigned q.0) (ok_is (True, tail ts) y c.1) true_stays
-        | inr c ↦ elim (chosen (next_word words.False ts) (Ok (False, tail ts)) _ (Ok y) c.1) [
-          | inl c2 ↦ subst (λ (q : Formula × List Token). StaysUnsigned q.0) (ok_is (False, tail ts) y c2.1) false_stays
-          | inr c2 ↦ elim (chosen (next_word words.Equal ts) (refuse OutsideProfile ts) _ (Ok y) c2.1) [
-            | inl c3 ↦ absurd (refused_not OutsideProfile ts y c3.1)
-            | inr c3 ↦ (let a = bind_ok (atom_at bytes symbols d ts) (λ x. Ok (formulas.Atom x.0, x.1)) y c3.1 in
-                subst (λ (q : Formula × List Token). StaysUnsigned q.0) (ok_is (formulas.Atom a.0.0, a.0.1) y a.2) (lone_stays a.0.0 (atom_stays bytes symbols d ts a.0 a.1)))
-          ]
-        ]
-      ]
+  unsigned_stays : (bytes : List ℕ) (symbols : List Declared) (depth : ℕ) (f : Formula) (ts rest : List Token) → unsigned bytes symbols depth f ts rest → StaysUnsigned f
+  unsigned_stays bytes symbols depth f ts rest (inl p) = subst StaysUnsigned (sym p.0) true_stays
+  unsigned_stays bytes symbols depth f ts rest (inr (inl p)) = subst StaysUnsigned (sym p.0) false_stays
+  unsigned_stays bytes symbols depth f ts rest (inr (inr p)) = subst StaysUnsigned (sym p.1) (lone_stays p.0 (atom_stays bytes symbols depth p.0 ts rest p.2))
 
   abbrev StaysOne : Formula → Type 0
   StaysOne f = StaysLiteral f × (literals f ≡ f ∷ [])
@@ -140,35 +91,21 @@ module _ (h : ℕ → Term) where
   negation_stays : (f : Formula) → StaysInner (out-Formula f) → StaysOne (Not f)
   negation_stays f s = (subst StaysLayer (sym (outs-Not f)) s, ap (literals_in (Not f)) (outs-Not f))
 
-  literal_stays : (bytes : List ℕ) (symbols : List Declared) (d : ℕ) (ts : List Token) (y : Formula × List Token) → literal_at bytes symbols d ts ≡ Ok y → StaysOne y.0
-  unfolding literal_at
-  literal_stays bytes symbols d ts y e =
-      elim (chosen (next_word words.Not ts) (mark_at OpenParenthesis (tail ts) >>= λ inner. unsigned_at bytes symbols (d - 1) inner >>= λ x. mark_at CloseParenthesis x.1 >>= λ rest. Ok (Not x.0, rest)) (unsigned_at bytes symbols d ts) (Ok y) e) [
-        | inl c ↦ (let a = bind_ok (mark_at OpenParenthesis (tail ts)) (λ inner. unsigned_at bytes symbols (d - 1) inner >>= λ x. mark_at CloseParenthesis x.1 >>= λ rest. Ok (Not x.0, rest)) y c.1 in
-            let b = bind_ok (unsigned_at bytes symbols (d - 1) a.0) (λ x. mark_at CloseParenthesis x.1 >>= λ rest. Ok (Not x.0, rest)) y a.2 in
-            let g = bind_ok (mark_at CloseParenthesis b.0.1) (λ rest. Ok (Not b.0.0, rest)) y b.2 in
-            subst (λ (q : Formula × List Token). StaysOne q.0) (ok_is (Not b.0.0, g.0) y g.2) (negation_stays b.0.0 (unsigned_stays bytes symbols (d - 1) a.0 b.0 b.1).1))
-        | inr c ↦ (let s = unsigned_stays bytes symbols d ts y c.1 in (s.0, s.2))
-      ]
+  literal_stays : (bytes : List ℕ) (symbols : List Declared) (depth : ℕ) (f : Formula) (ts rest : List Token) → literal bytes symbols depth f ts rest → StaysOne f
+  literal_stays bytes symbols depth f ts rest (inl p) = let s = unsigned_stays bytes symbols depth f ts rest p in (s.0, s.2)
+  literal_stays bytes symbols depth f ts rest (inr p) =
+      let inner = p.2.2 in
+      subst StaysOne (sym p.1) (negation_stays p.0 (unsigned_stays bytes symbols (depth - 1) p.0 inner.0 inner.2.0 inner.2.1).1)
 
   abbrev StaysBody : Formula → Type 0
   StaysBody f = AllByRecursion StaysLiteral (literals f)
 
-  body_stays : (bytes : List ℕ) (symbols : List Declared) (ts : List Token) (y : Formula × List Token) → body_at bytes symbols ts ≡ Ok y → StaysBody y.0
-  unfolding body_at
-  body_stays bytes symbols ts y e =
-      elim (chosen (next_word words.Forall ts) (refuse OutsideProfile ts) _ (Ok y) e) [
-        | inl c ↦ absurd (refused_not OutsideProfile ts y c.1)
-        | inr c ↦ elim (chosen (next_word words.Or ts) (mark_at OpenParenthesis (tail ts) >>= λ inner. literals_at bytes symbols 998 inner >>= λ x. mark_at CloseParenthesis x.1 >>= λ rest. Ok (Or x.0, rest)) (literal_at bytes symbols 999 ts) (Ok y) c.1) [
-          | inl c2 ↦ (let a = bind_ok (mark_at OpenParenthesis (tail ts)) (λ inner. literals_at bytes symbols 998 inner >>= λ x. mark_at CloseParenthesis x.1 >>= λ rest. Ok (Or x.0, rest)) y c2.1 in
-              let b = bind_ok (literals_at bytes symbols 998 a.0) (λ x. mark_at CloseParenthesis x.1 >>= λ rest. Ok (Or x.0, rest)) y a.2 in
-              let g = bind_ok (mark_at CloseParenthesis b.0.1) (λ rest. Ok (Or b.0.0, rest)) y b.2 in
-              let all : AllByRecursion StaysLiteral b.0.0 = each_read StaysLiteral (literal_at bytes symbols 998) (λ us x r. (literal_stays bytes symbols 998 us x r).0) (length a.0) a.0 b.0 b.1 in
-              let stays : StaysBody (Or b.0.0) = subst (AllByRecursion StaysLiteral) (sym (ap (literals_in (Or b.0.0)) (outs-Or b.0.0))) all in
-              subst (λ (q : Formula × List Token). StaysBody q.0) (ok_is (Or b.0.0, g.0) y g.2) stays)
-          | inr c2 ↦ (let s = literal_stays bytes symbols 999 ts y c2.1 in subst (AllByRecursion StaysLiteral) (sym s.1) (s.0, tt))
-        ]
-      ]
+  body_stays : (bytes : List ℕ) (symbols : List Declared) (f : Formula) (ts rest : List Token) → body bytes symbols f ts rest → StaysBody f
+  body_stays bytes symbols f ts rest (inl p) = let s = literal_stays bytes symbols 1000 f ts rest p in subst (AllByRecursion StaysLiteral) (sym s.1) (s.0, tt)
+  body_stays bytes symbols f ts rest (inr p) =
+      let inner = p.2.2 in
+      let all = separated_hold (literal bytes symbols 999) StaysLiteral (λ g us after q. (literal_stays bytes symbols 999 g us after q).0) p.0 inner.0 inner.2.0 inner.2.1 in
+      subst StaysBody (sym p.1) (subst (AllByRecursion StaysLiteral) (sym (ap (literals_in (Or p.0)) (outs-Or p.0))) all)
 
   -- ---- entries
 
@@ -178,38 +115,14 @@ module _ (h : ℕ → Term) where
   abbrev StayEntries : List Entry → Type 0
   StayEntries = AllByRecursion StaysEntry
 
-  clause_stays : (bytes : List ℕ) (symbols : List Declared) (entries : List Entry) (ts : List Token) (y : List Entry × List Token) → StayEntries entries → clause_at bytes symbols entries ts ≡ Ok y → StayEntries y.0
-  unfolding clause_at
-  clause_stays bytes symbols entries ts y all e =
-      let a = bind_ok (word_at words.Clause ts) _ y e in
-      let b = bind_ok (mark_at OpenParenthesis a.0) _ y a.2 in
-      let c = bind_ok (body_at bytes symbols b.0) _ y b.2 in
-      let d = bind_ok (within_limits entries (place ts) c.0.0) _ y c.2 in
-      let f = bind_ok (label_at c.0.1) _ y d.2 in
-      let g = bind_ok (mark_at CloseParenthesis f.0) _ y f.2 in
-      let k = bind_ok (mark_at Dot g.0) _ y g.2 in
-      let entry : Entry = record { role = roles.Clause; formula = c.0.0; at = place ts } in
-      subst (λ (q : List Entry × List Token). StayEntries q.0) (ok_is (entries ++ entry ∷ [], k.0) y k.2) (all-push StaysEntry entries entry all (body_stays bytes symbols b.0 c.0 c.1))
+  clause_stays : (bytes : List ℕ) (symbols : List Declared) (e : Entry) (ts rest : List Token) → clause bytes symbols e ts rest → StaysEntry e
+  clause_stays bytes symbols e ts rest p =
+      let opened = p.2.2.1 in
+      let labelled = opened.2.1 in
+      body_stays bytes symbols e.formula opened.0 labelled.0 labelled.1
 
-  list_stays : (bytes : List ℕ) (symbols : List Declared) (entries : List Entry) (ts : List Token) (y : List Entry × List Token) → StayEntries entries → list_at bytes symbols entries ts ≡ Ok y → StayEntries y.0
-  unfolding list_at
-  list_stays bytes symbols entries ts y all e =
-      elim (chosen (is_refused_list ts) (refuse OutsideProfile ts) _ (Ok y) e) [
-        | inl c ↦ absurd (refused_not OutsideProfile ts y c.1)
-        | inr c ↦ (let a = bind_ok (clauses_head_at ts) (λ rest. listed (clause_at bytes symbols) entries rest) y c.1 in
-            listed_keep StayEntries (clause_at bytes symbols) (clause_stays bytes symbols) entries a.0 y all a.2)
-      ]
-
-  problem_stays : (bytes : List ℕ) (p : Problem) → problem bytes ≡ Ok p → StayEntries p.entries
-  unfolding problem problem_at
-  problem_stays bytes p e =
-      let a = bind_ok (head_at (tokens bytes)) _ p e in
-      let b = bind_ok (descriptions_at a.0) _ p a.2 in
-      let c = bind_ok (signature_at bytes [] b.0) _ p b.2 in
-      let d = bind_ok (items words.EndProblem (list_at bytes c.0.0) (length c.0.1) [] c.0.1) _ p c.2 in
-      let f = bind_ok (mark_at Dot (tail d.0.1)) _ p d.2 in
-      let whole : Problem = record { signature = c.0.0; entries = d.0.0; proofs = []; end_at = place d.0.1 } in
-      subst (λ (q : Problem). StayEntries q.entries) (ok_is whole p f.2) (items_keep StayEntries (list_at bytes c.0.0) (list_stays bytes c.0.0) words.EndProblem (length c.0.1) [] c.0.1 d.0 tt d.1)
+  problem_stays : (bytes : List ℕ) (p : Problem) → IsWritten bytes p → StayEntries p.entries
+  problem_stays bytes p w = entries_hold bytes p StaysEntry (clause_stays bytes p.signature) w
 
   -- ---- clauses
 
@@ -330,10 +243,6 @@ entry_in_order e all = by_role e.role
     by_role roles.Axiom = tt
     by_role roles.Conjecture = tt
 
-all-append : {X : Type 0} (P : X → Type 0) (xs ys : List X) → AllByRecursion P xs → AllByRecursion P ys → AllByRecursion P (xs ++ ys)
-all-append P [] ys all more = more
-all-append P (x ∷ xs) ys all more = (all.0, all-append P xs ys all.1 more)
-
 entries_in_order : (es : List Entry) → ((h : ℕ → Term) → StayEntries h es) → AllByRecursion IsInOrder (clauses es)
 unfolding clauses
 entries_in_order [] all = tt
@@ -344,10 +253,9 @@ at_place [] all k c e = absurd cc
 at_place (d ∷ cs) all zero c e = let same : d ≡ c = cc in subst IsInOrder same all.0
 at_place (d ∷ cs) all (suc k) c e = at_place cs all.1 k c e
 
-pub in_order-problem : (bytes : List ℕ) (p : Problem) → problem bytes ≡ Ok p → AreInOrder (clauses p.entries)
-in_order-problem bytes p e = at_place (clauses p.entries) (entries_in_order p.entries (λ h. problem_stays h bytes p e))
+in_order-problem : (bytes : List ℕ) (p : Problem) → IsWritten bytes p → AreInOrder (clauses p.entries)
+in_order-problem bytes p w = at_place (clauses p.entries) (entries_in_order p.entries (λ h. problem_stays h bytes p w))
 
-pub in_order-read : (bytes : List ℕ) (ts : List Token) (r : Result Problem InputError) → ts ≡ tokens bytes → Gives {X = Problem} (λ p. p) r (problem_at bytes ts) → IfOk r (λ p. AreInOrder (clauses p.entries))
-unfolding problem
-in_order-read bytes ts (Ok p) is given = in_order-problem bytes p (ap (problem_at bytes) (sym is) ∙ given)
-in_order-read bytes ts (Err e) is given = tt
+pub in_order-read : (bytes : List ℕ) (r : Result Problem InputError) → IfOk r (λ p. IsWritten bytes p) → IfOk r (λ p. AreInOrder (clauses p.entries))
+in_order-read bytes (Ok p) w = in_order-problem bytes p w
+in_order-read bytes (Err e) w = tt

@@ -5,3 +5,5 @@ pub mod GroundClauses
 pub mod Clauses
 pub mod Problems
 pub mod Written
+pub mod Grammar
+pub mod OfSignature

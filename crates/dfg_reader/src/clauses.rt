@@ -5,7 +5,6 @@ ghost use Rattle.dfg_reader.specs.Reading.{Gives, place, items, listed};
 ghost use Rattle.dfg_reader.specs.GroundClauses.{formula_clauses, clauses, are_within_limits};
 ghost use Rattle.dfg_reader.specs.Clauses.{unsigned_at, literal_at, literals_at, body_at, within_limits, label_at, clause_at, origin_at, form_at, is_refused_list, clauses_head_at, list_at};
 
-use crate::declarations::Declarations;
 use crate::fault::{FaultKind, InputError};
 use crate::formula::Formula;
 use crate::ground_clauses::ReadClauses;
@@ -15,6 +14,7 @@ use crate::marks::{
 use crate::problem::{Entry, Role};
 use crate::terms::atom;
 use dfg_tokens::{Mark, Token, Word};
+use spl_symbols::Signature;
 use spl_terms::Items;
 use sqlite_items::Boxed;
 use std::alloc::Global;
@@ -24,7 +24,7 @@ use std::alloc::Global;
 fn unsigned<'a>(
     alloc: Global,
     bytes: &[u8],
-    symbols: &Declarations,
+    symbols: &Signature,
     depth: u32,
     tokens: &'a [Token],
 ) -> Result<(Formula, &'a [Token]), InputError>
@@ -47,7 +47,7 @@ fn unsigned<'a>(
 fn literal<'a>(
     alloc: Global,
     bytes: &[u8],
-    symbols: &Declarations,
+    symbols: &Signature,
     depth: u32,
     tokens: &'a [Token],
 ) -> Result<(Formula, &'a [Token]), InputError>
@@ -69,7 +69,7 @@ fn literal<'a>(
 fn literals<'a>(
     alloc: Global,
     bytes: &[u8],
-    symbols: &Declarations,
+    symbols: &Signature,
     depth: u32,
     tokens: &'a [Token],
 ) -> Result<(Items<Formula>, &'a [Token]), InputError>
@@ -95,7 +95,7 @@ fn literals<'a>(
 fn body<'a>(
     alloc: Global,
     bytes: &[u8],
-    symbols: &Declarations,
+    symbols: &Signature,
     tokens: &'a [Token],
 ) -> Result<(Formula, &'a [Token]), InputError>
     ensures { Gives (λ x. (x.0, x.1.now)) result (body_at bytes.now symbols.now tokens.now) }
@@ -148,7 +148,7 @@ fn label(tokens: &[Token]) -> Result<&[Token], InputError>
 fn clause<'a>(
     alloc: Global,
     bytes: &[u8],
-    symbols: &Declarations,
+    symbols: &Signature,
     read: &mut ReadClauses,
     tokens: &'a [Token],
 ) -> Result<&'a [Token], InputError>
@@ -221,7 +221,7 @@ fn clauses_head(tokens: &[Token]) -> Result<&[Token], InputError>
 fn clauses<'a>(
     alloc: Global,
     bytes: &[u8],
-    symbols: &Declarations,
+    symbols: &Signature,
     read: &mut ReadClauses,
     tokens: &'a [Token],
 ) -> Result<&'a [Token], InputError>
@@ -242,7 +242,7 @@ fn clauses<'a>(
 fn list<'a>(
     alloc: Global,
     bytes: &[u8],
-    symbols: &Declarations,
+    symbols: &Signature,
     read: &mut ReadClauses,
     tokens: &'a [Token],
 ) -> Result<&'a [Token], InputError>
@@ -261,7 +261,7 @@ fn list<'a>(
 pub fn lists<'a>(
     alloc: Global,
     bytes: &[u8],
-    symbols: &Declarations,
+    symbols: &Signature,
     read: &mut ReadClauses,
     tokens: &'a [Token],
 ) -> Result<&'a [Token], InputError>

@@ -25,13 +25,19 @@ pub enum FaultKind {
     /// A name that is declared as nothing that may stand there.
     Undeclared,
     /// A symbol with another number of arguments than declared; a count past the last `u32` is told as that.
-    Arity { declared: u32, found: u32 },
+    Arity {
+        /// How many arguments it was declared with.
+        declared: u32,
+        /// How many were read.
+        found: u32,
+    },
     /// A name that was declared before.
     DeclaredTwice,
     /// The second conjecture of a problem.
     SecondConjecture,
     /// A form of the syntax that isn't read.
     OutsideProfile,
+    /// More than the reader takes.
     LimitReached(Limit),
 }
 
@@ -40,14 +46,17 @@ pub enum FaultKind {
 pub struct ReadFault {
     /// The place of its token: the offset of the first byte, from 0, or the input's length at its end.
     pub at: usize,
+    /// What is wrong there.
     pub kind: FaultKind,
 }
 
 /// Why there is no problem.
 #[derive(Debug, Drop, Error)]
 pub enum InputError {
+    /// The bytes spell no problem.
     #[error("the input has a fault")]
     Fault(ReadFault),
+    /// There was no memory.
     #[error("out of memory")]
     Memory,
 }

@@ -18,7 +18,9 @@ pub enum Role {
 /// A formula or clause of a problem.
 #[derive(Debug, Drop)]
 pub struct Entry {
+    /// What it is in its problem.
     pub role: Role,
+    /// What it says.
     pub formula: Formula,
     /// The place of the first token of its item, as of its word `formula` or `clause`, from 0.
     pub at: usize,
@@ -27,6 +29,7 @@ pub struct Entry {
 /// A problem as it was read.
 #[derive(Drop)]
 pub struct Problem {
+    /// The declared symbols, in the order of the text.
     pub signature: Signature,
     /// The formulas and clauses in the order of the text.
     pub entries: Items<Entry>,

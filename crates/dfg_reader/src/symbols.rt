@@ -5,42 +5,41 @@ ghost use Rattle.spl_symbols.specs.Symbols.{found};
 ghost use Rattle.dfg_reader.specs.Reading.{Gives, commas, items, listed};
 ghost use Rattle.dfg_reader.specs.Symbols.{new_name_at, arity_of, arity_at, open_entry, symbol_at, symbols_at, symbol_item_at, signature_at, is_refused_item};
 
-use crate::declarations::Declarations;
+use crate::declarations::declare;
 use crate::fault::{FaultKind, InputError, Limit, ReadFault};
 use crate::marks::{
     bytes_of, identifier, mark, name, next_is_mark, next_is_name, next_is_word, refused,
     spelled_name, tail, unexpected,
 };
 use dfg_tokens::{Mark, Token, Word};
+use spl_symbols::Signature;
 use spl_terms::{Kind, Symbol};
 use std::alloc::Global;
 
 /// A declared symbol with its number of arguments.
 #[derive(Clone, Copy, Debug)]
 pub struct Found {
+    /// The symbol.
     pub symbol: Symbol,
+    /// How many arguments it takes.
     pub arity: u32,
 }
 
 /// The name that the token spells, if it may be declared: it is new, and there is room for it.
 #[tactic(auto, unfolding(crate::specs::Symbols::new_name_at))]
-fn new_name<'a>(
-    bytes: &'a [u8],
-    symbols: &Declarations,
-    token: Token,
-) -> Result<&'a str, InputError>
+fn new_name<'a>(bytes: &'a [u8], symbols: &Signature, token: Token) -> Result<&'a str, InputError>
     ensures given { Gives (λ name. name.now) result (new_name_at bytes.now symbols.now token) }
     ensures new { IfOk result (λ name. found name.now symbols.now ≡ None) }
     ensures room { OnOk result (length symbols.now < 65536) }
 {
     let name = spelled_name(bytes, token)?;
-    if symbols.has(name) {
+    if symbols.find(name).is_some() {
         return Err(InputError::Fault(ReadFault {
             at: token.at as usize,
             kind: FaultKind::DeclaredTwice,
         }));
     }
-    if symbols.is_full() {
+    if symbols.count() >= 65536 {
         return Err(InputError::Fault(ReadFault {
             at: token.at as usize,
             kind: FaultKind::LimitReached(Limit::Symbols),
@@ -67,6 +66,7 @@ fn arity_of(text: &[u8]) -> Option<u32>
     Some(number)
 }
 
+/// The number of arguments of an entry, as one to three digits spell it. The fault is Unexpected at its place.
 #[tactic(auto, unfolding(crate::specs::Symbols::arity_at))]
 pub fn arity<'a>(bytes: &[u8], tokens: &'a [Token]) -> Result<(u32, &'a [Token]), InputError>
     ensures { Gives (λ x. (x.0, x.1.now)) result (arity_at bytes.now tokens.now) }
@@ -95,7 +95,7 @@ fn symbol<'a>(
     alloc: Global,
     bytes: &[u8],
     kind: Kind,
-    symbols: &mut Declarations,
+    symbols: &mut Signature,
     tokens: &'a [Token],
 ) -> Result<&'a [Token], InputError>
     ensures { Gives (λ rest. (symbols.new, rest.now)) result (symbol_at bytes.now kind symbols.old tokens.now) }
@@ -112,7 +112,7 @@ fn symbol<'a>(
         }));
     }
     let rest = mark(Mark::CloseParenthesis, rest)?;
-    symbols.declare(alloc, name, arity, kind)?;
+    declare(symbols, alloc, name, arity, kind)?;
     Ok(rest)
 }
 
@@ -122,7 +122,7 @@ fn entries<'a>(
     alloc: Global,
     bytes: &[u8],
     kind: Kind,
-    symbols: &mut Declarations,
+    symbols: &mut Signature,
     tokens: &'a [Token],
 ) -> Result<&'a [Token], InputError>
     ensures { Gives (λ rest. (symbols.new, rest.now)) result (commas (symbol_at bytes.now kind) (length tokens.now) symbols.old tokens.now) }
@@ -144,7 +144,7 @@ fn symbol_list<'a>(
     alloc: Global,
     bytes: &[u8],
     kind: Kind,
-    symbols: &mut Declarations,
+    symbols: &mut Signature,
     tokens: &'a [Token],
 ) -> Result<&'a [Token], InputError>
     ensures { Gives (λ rest. (symbols.new, rest.now)) result (symbols_at bytes.now kind symbols.old tokens.now) }
@@ -170,7 +170,7 @@ fn is_refused_item(tokens: &[Token]) -> bool
 fn symbol_item<'a>(
     alloc: Global,
     bytes: &[u8],
-    symbols: &mut Declarations,
+    symbols: &mut Signature,
     tokens: &'a [Token],
 ) -> Result<&'a [Token], InputError>
     ensures { Gives (λ rest. (symbols.new, rest.now)) result (symbol_item_at bytes.now symbols.old tokens.now) }
@@ -191,7 +191,7 @@ fn symbol_item<'a>(
 fn symbol_items<'a>(
     alloc: Global,
     bytes: &[u8],
-    symbols: &mut Declarations,
+    symbols: &mut Signature,
     tokens: &'a [Token],
 ) -> Result<&'a [Token], InputError>
     ensures { Gives (λ rest. (symbols.new, rest.now)) result (items Word.EndOfList (symbol_item_at bytes.now) (length tokens.now) symbols.old tokens.now) }
@@ -211,7 +211,7 @@ fn symbol_items<'a>(
 pub fn signature_list<'a>(
     alloc: Global,
     bytes: &[u8],
-    symbols: &mut Declarations,
+    symbols: &mut Signature,
     tokens: &'a [Token],
 ) -> Result<&'a [Token], InputError>
     ensures { Gives (λ rest. (symbols.new, rest.now)) result (signature_at bytes.now symbols.old tokens.now) }

@@ -4,11 +4,12 @@ ghost use Rattle.std.specs.Prelude.{◌≡◌, ◌++◌, ◌+◌, [], ◌∷◌,
 ghost use Rattle.dfg_reader.specs.Reading.{Gives, commas};
 ghost use Rattle.dfg_reader.specs.Terms.{fits, fitting, symbol_named, counted, too_deep, terms_at, arguments_at, application_at, term_at, atom_at};
 
-use crate::declarations::Declarations;
+use crate::declarations::lookup;
 use crate::fault::{FaultKind, InputError, Limit, ReadFault};
 use crate::marks::{mark, name, next_is_mark, spelled_name, tail, unexpected};
 use crate::symbols::Found;
 use dfg_tokens::{Mark, Token};
+use spl_symbols::Signature;
 use spl_terms::{Atom, Items, Kind, Symbol, Term};
 use std::alloc::Global;
 
@@ -39,14 +40,14 @@ fn fitting(in_term: bool, at: usize, found: Option<Found>) -> Result<Found, Inpu
 #[tactic(auto, unfolding(crate::specs::Terms::symbol_named))]
 fn symbol_named(
     bytes: &[u8],
-    symbols: &Declarations,
+    symbols: &Signature,
     in_term: bool,
     token: Token,
 ) -> Result<Found, InputError>
     ensures { Gives (λ x. x) result (symbol_named bytes.now symbols.now in_term token) }
 {
     let name = spelled_name(bytes, token)?;
-    fitting(in_term, token.at as usize, symbols.lookup(name))
+    fitting(in_term, token.at as usize, lookup(symbols, name))
 }
 
 /// The symbol has as many arguments as were read.
@@ -84,7 +85,7 @@ fn too_deep(tokens: &[Token]) -> Result<(Term, &[Token]), InputError>
 fn term<'a>(
     alloc: Global,
     bytes: &[u8],
-    symbols: &Declarations,
+    symbols: &Signature,
     depth: u32,
     tokens: &'a [Token],
 ) -> Result<(Term, &'a [Token]), InputError>
@@ -103,7 +104,7 @@ fn term<'a>(
 fn application<'a>(
     alloc: Global,
     bytes: &[u8],
-    symbols: &Declarations,
+    symbols: &Signature,
     in_term: bool,
     depth: u32,
     tokens: &'a [Token],
@@ -123,7 +124,7 @@ fn application<'a>(
 fn arguments<'a>(
     alloc: Global,
     bytes: &[u8],
-    symbols: &Declarations,
+    symbols: &Signature,
     depth: u32,
     tokens: &'a [Token],
 ) -> Result<(Items<Term>, &'a [Token]), InputError>
@@ -143,7 +144,7 @@ fn arguments<'a>(
 fn terms<'a>(
     alloc: Global,
     bytes: &[u8],
-    symbols: &Declarations,
+    symbols: &Signature,
     depth: u32,
     tokens: &'a [Token],
 ) -> Result<(Items<Term>, &'a [Token]), InputError>
@@ -168,7 +169,7 @@ fn terms<'a>(
 pub fn atom<'a>(
     alloc: Global,
     bytes: &[u8],
-    symbols: &Declarations,
+    symbols: &Signature,
     depth: u32,
     tokens: &'a [Token],
 ) -> Result<(Atom, &'a [Token]), InputError>

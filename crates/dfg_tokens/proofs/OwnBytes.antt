@@ -1,13 +1,14 @@
 -- A token stands for its own bytes.
-use Rattle.std.proofs.Common.{◌≡◌, ◌==◌, ℕ, zero, suc, ◌+◌, ◌-◌, Bool, true, false, cond, List, [], ◌∷◌, take, drop, Option, Some, None, refl, sym, ap, subst, ◌∙◌, arith}
+use Rattle.std.proofs.Common.{◌≡◌, ◌==◌, ℕ, zero, suc, ◌+◌, ◌-◌, Bool, true, false, not, cond, List, [], ◌∷◌, take, drop, Option, Some, None, refl, sym, ap, subst, ◌∙◌, arith}
 use Rattle.std.proofs.lemmas.Bool.{eqb-true}
 use Rattle.std.specs.Bool.{⊤}
+use Rattle.std.specs.List.{position_or_len}
 use Rattle.dfg_tokens.specs.declared.piece.Mark.{Mark}
 use Rattle.dfg_tokens.specs.declared.piece.Mark.TheVariants as marks
 use Rattle.dfg_tokens.specs.declared.piece.TokenKind.{TokenKind}
 use Rattle.dfg_tokens.specs.declared.piece.Piece.{Piece}
 use Rattle.dfg_tokens.specs.declared.token.Token.{Token}
-use Rattle.dfg_tokens.specs.Tokens.{is_space, is_letter, byte_of, mark_of, closing, closed_text, text_at, name_at, mark_or_stray, piece_at, token_if, tokens_from, tokens, IsSpelled, AreTokensOf}
+use Rattle.dfg_tokens.specs.Tokens.{is_space, is_letter, byte_of, mark_of, closing, closed_text, text_at, name_at, mark_or_stray, piece_at, token_if, tokens_from, tokens, ends_name, AreLetters, IsSpelled, AreTokensOf}
 
 abbrev SpelledIf : Option TokenKind → List ℕ → Type 0
 SpelledIf None text = ⊤
@@ -47,9 +48,32 @@ mark_own b bs =
     (next_mark b bs (b == 44) marks.Comma _ (eqb-true b 44)
     (next_mark b bs (b == 46) marks.Dot None (eqb-true b 46) tt)))))
 
-name_own : (b : ℕ) (bs : List ℕ) → OwnBytes (b ∷ bs) (name_at (b ∷ bs))
+-- ---- identifiers
+
+first_letter : (b : ℕ) (rest : List ℕ) → is_letter b ≡ true → AreLetters rest → AreLetters (b ∷ rest)
+first_letter b rest l all = rw (l, all) refl
+
+letters_before : (bs : List ℕ) → AreLetters (take (position_or_len ends_name bs) bs)
+letters_before [] = refl
+letters_before (b ∷ bs) = by_test (is_letter b) refl (letters_before bs)
+  where
+    n : ℕ
+    n = position_or_len ends_name bs
+
+    by_test : (l : Bool) → is_letter b ≡ l → AreLetters (take n bs) → AreLetters (take (cond (not (cond l false true)) (1 + n) 0) (b ∷ bs))
+    by_test true e rest = let k : suc n ≡ 1 + n = omega arith in subst (λ m. AreLetters (take m (b ∷ bs))) k (first_letter b (take n bs) e rest)
+    by_test false e rest = refl
+
+name_own : (b : ℕ) (bs : List ℕ) → is_letter b ≡ true → OwnBytes (b ∷ bs) (name_at (b ∷ bs))
 unfolding name_at
-name_own b bs = refl
+name_own b bs l =
+    let n = position_or_len ends_name bs in
+    let k : suc n ≡ n + 1 = omega arith in
+    (refl, subst (λ m. AreLetters (take m (b ∷ bs))) k (first_letter b (take n bs) l (letters_before bs)))
+
+choose_where : (P : Piece → Type 0) (b : Bool) (x y : Piece) → (b ≡ true → P x) → P y → P (cond b x y)
+choose_where P true x y p q = p refl
+choose_where P false x y p q = q
 
 piece_own : (bytes : List ℕ) → OwnBytes bytes (piece_at bytes)
 unfolding piece_at
@@ -57,7 +81,7 @@ piece_own [] = tt
 piece_own (b ∷ bs) =
     choose (OwnBytes (b ∷ bs)) (is_space b) _ _ tt
     (choose (OwnBytes (b ∷ bs)) (b == 37) _ _ tt
-    (choose (OwnBytes (b ∷ bs)) (is_letter b) (name_at (b ∷ bs)) _ (name_own b bs)
+    (choose_where (OwnBytes (b ∷ bs)) (is_letter b) (name_at (b ∷ bs)) _ (name_own b bs)
     (choose (OwnBytes (b ∷ bs)) (b == 123) (text_at bs) (mark_or_stray b (mark_of b)) (at_brace_own (b ∷ bs) bs) (mark_own b bs))))
 
 drop_more : (n : ℕ) (all : List ℕ) (b : ℕ) (bs : List ℕ) → drop n all ≡ b ∷ bs → drop (n + 1) all ≡ bs

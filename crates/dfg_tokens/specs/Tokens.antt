@@ -1,6 +1,6 @@
 -- Bytes as tokens (SPASS Input Syntax 1.5).
 use Rattle.std.specs.Prelude.{◌≡◌, ℕ, zero, suc, ◌+◌, ◌-◌, Bool, true, false, ◌&&◌, ◌||◌, ◌==◌, nat_le, ◌≤◌, ◌<◌, if◌then◌else◌, List, [], ◌∷◌, length, take, drop, Option, Some, None, option_map, ⊤}
-use Rattle.std.specs.List.{position_or_len, AllByRecursion}
+use Rattle.std.specs.List.{position_or_len, list_all, AllByRecursion}
 use Rattle.dfg_tokens.specs.declared.piece.Mark.{Mark}
 use Rattle.dfg_tokens.specs.declared.piece.Mark.TheVariants as marks
 use Rattle.dfg_tokens.specs.declared.piece.TokenKind.{TokenKind}
@@ -109,9 +109,13 @@ IsWarned may_close bytes = may_close ≡ false → closing (drop 1 bytes) ≡ No
 abbrev pub token_bytes : List ℕ → Token → List ℕ
 token_bytes bytes t = take t.len (drop t.at bytes)
 
--- an identifier is the word that it spells, and a mark is its one byte
+-- letters, digits and `_` alone
+abbrev pub AreLetters : List ℕ → Type 0
+AreLetters text = list_all is_letter text ≡ true
+
+-- an identifier has letters, digits and `_` alone and is the word that it spells, and a mark is its one byte
 abbrev pub IsSpelled : TokenKind → List ℕ → Type 0
-IsSpelled (kinds.Word w) text = word_of text ≡ w
+IsSpelled (kinds.Word w) text = (word_of text ≡ w) × AreLetters text
 IsSpelled (kinds.Mark m) text = text ≡ byte_of m ∷ []
 IsSpelled _ text = ⊤
 

@@ -9,11 +9,17 @@ use crate::word::{Word, word_of};
 /// A mark of the grammar.
 #[derive(Clone, Copy, PartialEq, Eq, Debug)]
 pub enum Mark {
+    /// `(`.
     OpenParenthesis,
+    /// `)`.
     CloseParenthesis,
+    /// `[`.
     OpenBracket,
+    /// `]`.
     CloseBracket,
+    /// `,`.
     Comma,
+    /// `.`.
     Dot,
 }
 
@@ -24,6 +30,7 @@ pub enum TokenKind {
     Word(Word),
     /// A text: `{*`, any bytes, and the first `*}` after them.
     Text,
+    /// A mark.
     Mark(Mark),
     /// A byte that begins no token, and also the `{` of a text that is never closed.
     Stray(u8),
@@ -34,6 +41,7 @@ pub enum TokenKind {
 /// What stands at the front: a token, or white space or a comment where there is no kind.
 #[derive(Clone, Copy, Debug)]
 pub struct Piece {
+    /// The token's kind; none for white space and comments.
     pub kind: Option<TokenKind>,
     /// How many bytes it takes.
     pub len: usize,
@@ -74,12 +82,14 @@ fn mark_of(byte: u8) -> Option<Mark>
     }
 }
 
+/// Whether the byte is white space.
 fn is_space(byte: u8) -> bool
     ensures { result ≡ is_space byte }
 {
     byte == b' ' || byte == b'\t' || byte == b'\r' || byte == b'\n'
 }
 
+/// Whether the byte may stand in an identifier.
 fn is_letter(byte: u8) -> bool
     ensures { result ≡ is_letter byte }
 {
@@ -89,6 +99,7 @@ fn is_letter(byte: u8) -> bool
         || byte == b'_'
 }
 
+/// How many bytes stand before the end of the identifier.
 fn name_len(bytes: &[u8]) -> usize
     ensures is { result ≡ position_or_len ends_name bytes.now }
     ensures within { result ≤ length bytes.now }
@@ -101,6 +112,7 @@ fn name_len(bytes: &[u8]) -> usize
     bytes.len()
 }
 
+/// How many bytes stand before the end of the line.
 fn comment_len(bytes: &[u8]) -> usize
     ensures is { result ≡ position_or_len ends_line bytes.now }
     ensures within { result ≤ length bytes.now }
@@ -113,6 +125,7 @@ fn comment_len(bytes: &[u8]) -> usize
     bytes.len()
 }
 
+/// Whether `*}` begins with this byte.
 fn is_closed(first: u8, after: &[u8]) -> bool
     ensures { result ≡ closes first after.now }
 {

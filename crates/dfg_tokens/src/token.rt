@@ -13,6 +13,7 @@ pub struct Token {
     pub at: u32,
     /// How many bytes it takes.
     pub len: u32,
+    /// What it is.
     pub kind: TokenKind,
 }
 
@@ -30,7 +31,7 @@ fn push_piece(found: &mut Vec<Token>, at: u32, next: Piece) -> Result<(), AllocE
 
 /// The tokens of the bytes in order, and at last their end (SPASS Input Syntax 1.5).
 ///
-/// Each identifier is the word that its bytes spell, and each mark its byte. An error is want of memory.
+/// Each identifier has letters, digits and `_` alone and is the word that its bytes spell, and each mark is its byte. An error is want of memory.
 #[tactic(auto, unfolding(crate::specs::Tokens::tokens_from), using(crate::proofs::Skip::whole))]
 pub fn tokens_of(alloc: Global, bytes: &[u8]) -> Result<Vec<Token>, AllocError>
     requires { length bytes.now < 2 ^ 32 }

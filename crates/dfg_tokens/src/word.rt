@@ -1,56 +1,102 @@
 //! The words of the grammar.
 
 ghost use Rattle.std.specs.Prelude.{◌≡◌};
-ghost use Rattle.dfg_tokens.specs.Words.{spelling, first_word, word_of};
+ghost use Rattle.dfg_tokens.specs.Words.{spelling, spelling_within_lists, first_word, word_of};
 
 /// What an identifier means to the grammar, by its spelling. `Plain` is any other identifier.
 #[derive(Clone, Copy, PartialEq, Eq, Debug)]
 pub enum Word {
+    /// `begin_problem`.
     BeginProblem,
+    /// `end_problem`.
     EndProblem,
+    /// `end_of_list`.
     EndOfList,
+    /// `list_of_descriptions`.
     ListOfDescriptions,
+    /// `list_of_symbols`.
     ListOfSymbols,
+    /// `list_of_clauses`.
     ListOfClauses,
+    /// `list_of_declarations`.
     ListOfDeclarations,
+    /// `list_of_formulae`.
     ListOfFormulae,
+    /// `list_of_proof`.
     ListOfProof,
+    /// `list_of_settings`.
     ListOfSettings,
+    /// `list_of_terms`.
     ListOfTerms,
+    /// `list_of_special_formulae`.
     ListOfSpecialFormulae,
+    /// `list_of_includes`.
     ListOfIncludes,
+    /// `name`.
     Name,
+    /// `author`.
     Author,
+    /// `version`.
     Version,
+    /// `logic`.
     Logic,
+    /// `description`.
     Description,
+    /// `date`.
     Date,
+    /// `status`.
     Status,
+    /// `satisfiable`.
     Satisfiable,
+    /// `unsatisfiable`.
     Unsatisfiable,
+    /// `unknown`.
     Unknown,
+    /// `functions`.
     Functions,
+    /// `predicates`.
     Predicates,
+    /// `sorts`.
     Sorts,
+    /// `operators`.
     Operators,
+    /// `quantifiers`.
     Quantifiers,
+    /// `translpairs`.
     Translpairs,
+    /// `axioms`.
     Axioms,
+    /// `conjectures`.
     Conjectures,
+    /// `cnf`.
     Cnf,
+    /// `dnf`.
     Dnf,
+    /// `clause`.
     Clause,
+    /// `forall`.
     Forall,
+    /// `exists`.
     Exists,
+    /// `not`.
     Not,
+    /// `and`.
     And,
+    /// `or`.
     Or,
+    /// `implies`.
     Implies,
+    /// `implied`.
     Implied,
+    /// `equiv`.
     Equiv,
+    /// `equal`.
     Equal,
+    /// `true`.
     True,
+    /// `false`.
     False,
+    /// An identifier that is no word of the grammar.
     Plain,
 }
 
@@ -130,6 +176,15 @@ pub fn spelled(word: Word) -> &'static [u8]
         Word::Satisfiable => b"satisfiable",
         Word::Unsatisfiable => b"unsatisfiable",
         Word::Unknown => b"unknown",
+        _ => spelled_within_lists(word),
+    }
+}
+
+/// How a word of the lists of symbols and of clauses is spelled; any other word gives no bytes.
+fn spelled_within_lists(word: Word) -> &'static [u8]
+    ensures { result.now ≡ spelling_within_lists word }
+{
+    match word {
         Word::Functions => b"functions",
         Word::Predicates => b"predicates",
         Word::Sorts => b"sorts",
@@ -152,7 +207,7 @@ pub fn spelled(word: Word) -> &'static [u8]
         Word::Equal => b"equal",
         Word::True => b"true",
         Word::False => b"false",
-        Word::Plain => b"",
+        _ => b"",
     }
 }
 

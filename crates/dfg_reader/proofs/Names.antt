@@ -1,0 +1,169 @@
+-- Symbols that are found by their names.
+use Rattle.std.proofs.Common.{◌≡◌, ℕ, zero, suc, ◌+◌, ◌≤◌, ◌<◌, ◌⊎◌, inl, inr, Bool, true, false, not, cond, List, [], ◌∷◌, ◌++◌, length, Option, Some, None, get_or, slice_get, option_map, option_and_then, nat_lt, IsSomeAnd, refl, sym, ap, subst, ◌∙◌, length-append, arith}
+use Rattle.std.proofs.lemmas.Bool.{ltb-true, ltb-false, lt-ltb}
+use Rattle.std.proofs.lemmas.Option.{slice_get_within, get_or_from_slice_get}
+use Rattle.std.proofs.lemmas.List.Quantifiers.{position-Some}
+use Rattle.std.proofs.lemmas.Slice.Eq.{bytes_eq-Decides}
+use Rattle.std.specs.List.{position, position_or_len}
+use Rattle.std.specs.Str.{bytes_eq}
+use Rattle.spl_terms.specs.declared.term.Symbol.{Symbol}
+use Rattle.spl_symbols.specs.Symbols.{Declared, found, HasOwnNames}
+use Rattle.dfg_reader.specs.declared.symbols.Found.{Found}
+use Rattle.dfg_reader.specs.Symbols.{with_arity}
+
+-- a symbol that is found is one of the signature
+pub found_within : (name : List ℕ) (ds : List Declared) (s : Symbol) → found name ds ≡ Some s → s.number < length ds
+found_within name ds s e = at_place (position (λ d. bytes_eq name d.name) ds) e
+  where
+    at_number : (i : ℕ) (o : Option Declared) → slice_get ds i ≡ o → option_map (λ (d : Declared). record { number = i; kind = d.kind }) o ≡ Some s → s.number < length ds
+    at_number i None is r = absurd cc
+    at_number i (Some d) is r =
+        let same : record { number = i; kind = d.kind } ≡ s = cc in
+        let n : i ≡ s.number = ap (λ (x : Symbol). x.number) same in
+        let h = slice_get_within ds i d is in
+        omega arith
+
+    at_place : (p : Option ℕ) → option_and_then (λ i. option_map (λ (d : Declared). record { number = i; kind = d.kind }) (slice_get ds i)) p ≡ Some s → s.number < length ds
+    at_place None r = absurd cc
+    at_place (Some i) r = at_number i (slice_get ds i) refl r
+
+pub looked_up : (symbols : List Declared) (s : Symbol) (n : ℕ) → IsSomeAnd (slice_get symbols s.number) (λ d. n ≡ d.arity) → with_arity symbols (Some s) ≡ Some (record { symbol = s; arity = n })
+looked_up symbols s n is = by_declared (slice_get symbols s.number) is
+  where
+    by_declared : (o : Option Declared) → IsSomeAnd o (λ d. n ≡ d.arity) → option_map {U = Found} (λ (d : Declared). record { symbol = s; arity = d.arity }) o ≡ Some (record { symbol = s; arity = n })
+    by_declared None h = absurd h
+    by_declared (Some d) h = ap (λ (m : ℕ). Some (record { symbol = s; arity = m })) (sym h)
+
+-- ---- names in a longer list
+
+module _ {X : Type 0} (p : X → Bool) where
+  place_kept : (xs ys : List X) → position_or_len p xs < length xs → position_or_len p (xs ++ ys) ≡ position_or_len p xs
+  place_kept [] ys h = absurd (omega arith)
+  place_kept (x ∷ xs) ys h = by_test (p x) h (place_kept xs ys)
+    where
+      by_test : (b : Bool) → cond (not b) (1 + position_or_len p xs) 0 < suc (length xs) → (position_or_len p xs < length xs → position_or_len p (xs ++ ys) ≡ position_or_len p xs) → cond (not b) (1 + position_or_len p (xs ++ ys)) 0 ≡ cond (not b) (1 + position_or_len p xs) 0
+      by_test true k more = refl
+      by_test false k more = ap (λ n. 1 + n) (more (omega arith))
+
+  position_kept : (xs ys : List X) (i : ℕ) → position p xs ≡ Some i → position p (xs ++ ys) ≡ Some i
+  position_kept xs ys i e = by_test (nat_lt (position_or_len p xs) (length xs)) refl e
+    where
+      by_test : (b : Bool) → nat_lt (position_or_len p xs) (length xs) ≡ b → cond b (Some (position_or_len p xs)) None ≡ Some i → position p (xs ++ ys) ≡ Some i
+      by_test false t r = absurd cc
+      by_test true t r =
+          let h : position_or_len p xs < length xs = ltb-true (position_or_len p xs) (length xs) t in
+          let same : position_or_len p (xs ++ ys) ≡ position_or_len p xs = place_kept xs ys h in
+          let within : nat_lt (position_or_len p (xs ++ ys)) (length (xs ++ ys)) ≡ true = lt-ltb (position_or_len p (xs ++ ys)) (length (xs ++ ys)) (omega (arith, length-append xs ys)) in
+          rw within (ap Some same ∙ r)
+
+get_kept : (xs ys : List Declared) (i : ℕ) (d : Declared) → slice_get xs i ≡ Some d → slice_get (xs ++ ys) i ≡ Some d
+get_kept [] ys i d e = absurd cc
+get_kept (x ∷ xs) ys zero d e = e
+get_kept (x ∷ xs) ys (suc i) d e = get_kept xs ys i d e
+
+pub get_next : (xs : List Declared) (d : Declared) (ys : List Declared) → slice_get (xs ++ d ∷ ys) (length xs) ≡ Some d
+get_next [] d ys = refl
+get_next (x ∷ xs) d ys = get_next xs d ys
+
+abbrev at_place : List Declared → Option ℕ → Option Symbol
+at_place ds = option_and_then (λ i. option_map (λ (d : Declared). record { number = i; kind = d.kind }) (slice_get ds i))
+
+pub found_kept : (name : List ℕ) (xs ys : List Declared) (s : Symbol) → found name xs ≡ Some s → found name (xs ++ ys) ≡ Some s
+found_kept name xs ys s e = by_place (position (λ d. bytes_eq name d.name) xs) refl e
+  where
+    by_declared : (i : ℕ) (o : Option Declared) → slice_get xs i ≡ o → option_map (λ (d : Declared). record { number = i; kind = d.kind }) o ≡ Some s → option_map (λ (d : Declared). record { number = i; kind = d.kind }) (slice_get (xs ++ ys) i) ≡ Some s
+    by_declared i None is r = absurd cc
+    by_declared i (Some d) is r = ap (option_map (λ (d : Declared). record { number = i; kind = d.kind })) (get_kept xs ys i d is) ∙ r
+
+    by_place : (o : Option ℕ) → position (λ d. bytes_eq name d.name) xs ≡ o → at_place xs o ≡ Some s → found name (xs ++ ys) ≡ Some s
+    by_place None is r = absurd cc
+    by_place (Some i) is r = ap (at_place (xs ++ ys)) (position_kept (λ d. bytes_eq name d.name) xs ys i is) ∙ by_declared i (slice_get xs i) refl r
+
+-- what is found is declared under this name
+pub found_declared : (name : List ℕ) (ds : List Declared) (s : Symbol) → found name ds ≡ Some s → (d : Declared) × (slice_get ds s.number ≡ Some d) × (d.name ≡ name) × (d.kind ≡ s.kind)
+found_declared name ds s e = by_place (position (λ d. bytes_eq name d.name) ds) refl e
+  where
+    by_declared : (i : ℕ) (o : Option Declared) → slice_get ds i ≡ o → position (λ d. bytes_eq name d.name) ds ≡ Some i → option_map (λ (d : Declared). record { number = i; kind = d.kind }) o ≡ Some s → (d : Declared) × (slice_get ds s.number ≡ Some d) × (d.name ≡ name) × (d.kind ≡ s.kind)
+    by_declared i None is place r = absurd cc
+    by_declared i (Some d) is place r =
+        let same : record { number = i; kind = d.kind } ≡ s = cc in
+        let passes : bytes_eq name (get_or ds i d).name ≡ true = (position-Some (λ d. bytes_eq name d.name) ds i d place).1 in
+        let text : bytes_eq name d.name ≡ true = ap (λ (x : Declared). bytes_eq name x.name) (sym (get_or_from_slice_get ds i d d is)) ∙ passes in
+        (d, ap (λ (x : Symbol). slice_get ds x.number) (sym same) ∙ is, sym ((bytes_eq-Decides name d.name).0 text), ap (λ (x : Symbol). x.kind) same)
+
+    by_place : (o : Option ℕ) → position (λ d. bytes_eq name d.name) ds ≡ o → at_place ds o ≡ Some s → (d : Declared) × (slice_get ds s.number ≡ Some d) × (d.name ≡ name) × (d.kind ≡ s.kind)
+    by_place None place r = absurd cc
+    by_place (Some i) place r = by_declared i (slice_get ds i) refl place r
+
+-- where no name stands twice, a name is new to the symbols before it
+pub new_name : (xs : List Declared) (d : Declared) (ys : List Declared) → HasOwnNames (xs ++ d ∷ ys) → found d.name xs ≡ None
+new_name xs d ys own = by_found (found d.name xs) refl
+  where
+    own_place : found d.name (xs ++ d ∷ ys) ≡ Some (record { number = length xs; kind = d.kind })
+    own_place = own (length xs) d (get_next xs d ys)
+
+    by_found : (o : Option Symbol) → found d.name xs ≡ o → o ≡ None
+    by_found None is = refl
+    by_found (Some s) is =
+        let same : Some s ≡ Some (record { number = length xs; kind = d.kind }) = sym (found_kept d.name xs (d ∷ ys) s is) ∙ own_place in
+        let at : s ≡ record { number = length xs; kind = d.kind } = cc in
+        let number : s.number ≡ length xs = ap (λ (x : Symbol). x.number) at in
+        let within : s.number < length xs = found_within d.name xs s is in
+        absurd (omega arith)
+
+-- ---- one more name
+
+module _ {X : Type 0} (p : X → Bool) where
+  place_last : (xs : List X) (y : X) → length xs ≤ position_or_len p xs → p y ≡ true → position_or_len p (xs ++ y ∷ []) ≡ length xs
+  place_last [] y h e = ap (λ b. cond (not b) (1 + 0) 0) e
+  place_last (x ∷ xs) y h e = by_test (p x) h (λ k. place_last xs y k e)
+    where
+      by_test : (b : Bool) → suc (length xs) ≤ cond (not b) (1 + position_or_len p xs) 0 → (length xs ≤ position_or_len p xs → position_or_len p (xs ++ y ∷ []) ≡ length xs) → cond (not b) (1 + position_or_len p (xs ++ y ∷ [])) 0 ≡ suc (length xs)
+      by_test true k more = absurd (omega arith)
+      by_test false k more = let m = more (omega arith) in omega arith
+
+none_past : (ds : List Declared) (i : ℕ) → i < length ds → slice_get ds i ≡ None → ⊥
+none_past [] i h e = absurd (omega arith)
+none_past (d ∷ ds) zero h e = cc
+none_past (d ∷ ds) (suc i) h e = none_past ds i (omega arith) e
+
+none_some : (s : Symbol) → None ≡ Some s → ⊥
+none_some s e = cc
+
+passed : (name : List ℕ) (ds : List Declared) → found name ds ≡ None → length ds ≤ position_or_len (λ d. bytes_eq name d.name) ds
+passed name ds none = by_test (nat_lt (position_or_len (λ d. bytes_eq name d.name) ds) (length ds)) refl
+  where
+    i : ℕ
+    i = position_or_len (λ d. bytes_eq name d.name) ds
+
+    by_test : (b : Bool) → nat_lt i (length ds) ≡ b → length ds ≤ i
+    by_test false t = ltb-false i (length ds) t
+    by_test true t = absurd (by_declared (slice_get ds i) refl)
+      where
+        by_declared : (o : Option Declared) → slice_get ds i ≡ o → ⊥
+        by_declared None is = none_past ds i (ltb-true i (length ds) t) is
+        by_declared (Some d) is =
+            let some : found name ds ≡ Some (record { number = i; kind = d.kind }) = ap (λ b. at_place ds (cond b (Some i) None)) t ∙ ap (option_map (λ (x : Declared). record { number = i; kind = x.kind })) is in
+            none_some (record { number = i; kind = d.kind }) (sym none ∙ some)
+
+old_or_last : (ds : List Declared) (x : Declared) (i : ℕ) (d : Declared) → slice_get (ds ++ x ∷ []) i ≡ Some d → (slice_get ds i ≡ Some d) ⊎ ((i ≡ length ds) × (x ≡ d))
+old_or_last [] x zero d e = inr (refl, cc)
+old_or_last [] x (suc i) d e = absurd cc
+old_or_last (y ∷ ds) x zero d e = inl e
+old_or_last (y ∷ ds) x (suc i) d e = elim (old_or_last ds x i d e) [ inl h ↦ inl h | inr h ↦ inr (ap suc h.0, h.1) ]
+
+found_last : (ds : List Declared) (d : Declared) → found d.name ds ≡ None → found d.name (ds ++ d ∷ []) ≡ Some (record { number = length ds; kind = d.kind })
+found_last ds d none =
+    let p : Declared → Bool = λ x. bytes_eq d.name x.name in
+    let place : position_or_len p (ds ++ d ∷ []) ≡ length ds = place_last p ds d (passed d.name ds none) ((bytes_eq-Decides d.name d.name).1 refl) in
+    let within : nat_lt (position_or_len p (ds ++ d ∷ [])) (length (ds ++ d ∷ [])) ≡ true = lt-ltb (position_or_len p (ds ++ d ∷ [])) (length (ds ++ d ∷ [])) (omega (arith, length-append ds (d ∷ []))) in
+    let here : position p (ds ++ d ∷ []) ≡ Some (length ds) = rw within (ap Some place) in
+    ap (at_place (ds ++ d ∷ [])) here ∙ ap (option_map (λ (x : Declared). record { number = length ds; kind = x.kind })) (get_next ds d [])
+
+-- each name is found at its own place after one more name too
+pub one_more_name : (ds : List Declared) (x : Declared) → HasOwnNames ds → found x.name ds ≡ None → HasOwnNames (ds ++ x ∷ [])
+one_more_name ds x own none i d e =
+    elim (old_or_last ds x i d e) [
+      | inl h ↦ found_kept d.name ds (x ∷ []) (record { number = i; kind = d.kind }) (own i d h)
+      | inr h ↦ subst (λ (y : Declared). found y.name (ds ++ x ∷ []) ≡ Some (record { number = i; kind = y.kind })) h.1 (found_last ds x none ∙ ap (λ (n : ℕ). Some (record { number = n; kind = x.kind })) (sym h.0))
+    ]
