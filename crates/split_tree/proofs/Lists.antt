@@ -1,0 +1,122 @@
+-- Lists with more at their end, or with an item changed.
+use Rattle.std.proofs.Common.{◌≡◌, ℕ, zero, suc, ◌+◌, ◌-◌, ◌<◌, ◌≤◌, Bool, true, false, cond, eqb, eq-eqb, List, [], ◌∷◌, ◌++◌, length, map, take, Option, Some, None, refl, sym, ◌∙◌, ap, arith, length-append, append_assoc, add-one}
+use Rattle.std.specs.Prelude.{slice_set, insert}
+use Rattle.std.specs.List.{slice_get}
+use Rattle.std.specs.Option.{option_map}
+use Rattle.std.proofs.lemmas.Bool.{cond-true, cond-false, ne_eqb}
+use Rattle.spl_terms.specs.declared.clause.Clause.{Clause}
+use Rattle.spl_terms.specs.Clauses.{is_empty}
+use Rattle.proof_steps.specs.declared.step.Line.{Line}
+use Rattle.proof_steps.specs.Spots.{changed_at}
+use Rattle.split_tree.specs.declared.caches.Spot.{Spot}
+use Rattle.split_tree.specs.Journal.{input_line, input_lines}
+use Rattle.split_tree.specs.Paths.{replaced}
+use Rattle.split_tree.specs.Caches.{spots_upto, empties}
+
+pub get_more : {A : Type 0} (xs ys : List A) (k : ℕ) (x : A) → slice_get xs k ≡ Some x → slice_get (xs ++ ys) k ≡ Some x
+get_more [] ys k x h = cc
+get_more (y ∷ xs) ys zero x h = h
+get_more (y ∷ xs) ys (suc k) x h = get_more xs ys k x h
+
+pub get_right : {A : Type 0} (xs ys : List A) (k : ℕ) → slice_get (xs ++ ys) (length xs + k) ≡ slice_get ys k
+get_right [] ys k = ap (slice_get ys) (omega arith)
+get_right (x ∷ xs) ys k = ap (slice_get (x ∷ (xs ++ ys))) (let e : suc (length xs) + k ≡ suc (length xs + k) = omega arith in e) ∙ get_right xs ys k
+
+pub get_left : {A : Type 0} (xs ys : List A) (k : ℕ) → k < length xs → slice_get (xs ++ ys) k ≡ slice_get xs k
+get_left [] ys k h = absurd (omega arith)
+get_left (x ∷ xs) ys zero h = refl
+get_left (x ∷ xs) ys (suc k) h = get_left xs ys k (omega arith)
+
+-- ---- an item changed
+
+pub length-changed_at : {A : Type 0} (k : ℕ) (f : A → A) (xs : List A) → length (changed_at k f xs) ≡ length xs
+length-changed_at k f [] = refl
+length-changed_at zero f (x ∷ xs) = refl
+length-changed_at (suc k) f (x ∷ xs) = omega (arith, length-changed_at k f xs)
+
+pub changed_at-here : {A : Type 0} (k : ℕ) (f : A → A) (xs : List A) → slice_get (changed_at k f xs) k ≡ option_map f (slice_get xs k)
+changed_at-here k f [] = refl
+changed_at-here zero f (x ∷ xs) = refl
+changed_at-here (suc k) f (x ∷ xs) = changed_at-here k f xs
+
+pub changed_at-elsewhere : {A : Type 0} (k j : ℕ) (f : A → A) (xs : List A) → (j ≡ k → ⊥) → slice_get (changed_at k f xs) j ≡ slice_get xs j
+changed_at-elsewhere k j f [] h = refl
+changed_at-elsewhere zero zero f (x ∷ xs) h = absurd (h refl)
+changed_at-elsewhere zero (suc j) f (x ∷ xs) h = refl
+changed_at-elsewhere (suc k) zero f (x ∷ xs) h = refl
+changed_at-elsewhere (suc k) (suc j) f (x ∷ xs) h = changed_at-elsewhere k j f xs (λ e. h (ap suc e))
+
+pub changed_at-set : {A : Type 0} (k : ℕ) (f : A → A) (xs : List A) (x y : A) → slice_get xs k ≡ Some x → y ≡ f x → slice_set xs k y ≡ changed_at k f xs
+changed_at-set k f [] x y h e = cc
+changed_at-set zero f (z ∷ xs) x y h e = let q : z ≡ x = cc in rw (e, q)
+changed_at-set (suc k) f (z ∷ xs) x y h e = ap (λ zs. z ∷ zs) (changed_at-set k f xs x y h e)
+
+-- ---- two leaves in the place of one
+
+replaced-here : (leaf count : ℕ) (xs : List ℕ) (x : ℕ) → x ≡ leaf → replaced leaf count (x ∷ xs) ≡ count ∷ (count + 1) ∷ xs
+replaced-here leaf count xs x e = cond-true (eqb x leaf) _ _ (eq-eqb x leaf e)
+
+replaced-later : (leaf count : ℕ) (xs : List ℕ) (x : ℕ) → (x ≡ leaf → ⊥) → replaced leaf count (x ∷ xs) ≡ x ∷ replaced leaf count xs
+replaced-later leaf count xs x e = cond-false (eqb x leaf) _ _ (ne_eqb x leaf e)
+
+abbrev pub HasNot : ℕ → ℕ → List ℕ → Type 0
+HasNot leaf place xs = (k x : ℕ) → k < place → slice_get xs k ≡ Some x → x ≡ leaf → ⊥
+
+pub replaced_at : (leaf count place : ℕ) (xs : List ℕ) (x : ℕ) → slice_get xs place ≡ Some x → x ≡ leaf → HasNot leaf place xs → insert (slice_set xs place count) (suc place) (count + 1) ≡ replaced leaf count xs
+replaced_at leaf count place [] x h e none = cc
+replaced_at leaf count zero (y ∷ xs) x h e none = let q : y ≡ leaf = cc in sym (replaced-here leaf count xs y q)
+replaced_at leaf count (suc place) (y ∷ xs) x h e none =
+    ap (λ ys. y ∷ ys) (replaced_at leaf count place xs x h e (λ k z low g. none (suc k) z (omega arith) g))
+    ∙ sym (replaced-later leaf count xs y (none 0 y (omega arith) refl))
+
+pub replaced_none : (leaf count : ℕ) (xs : List ℕ) → HasNot leaf (length xs) xs → replaced leaf count xs ≡ xs
+replaced_none leaf count [] none = refl
+replaced_none leaf count (y ∷ xs) none =
+    replaced-later leaf count xs y (none 0 y (omega arith) refl) ∙ ap (λ ys. y ∷ ys) (replaced_none leaf count xs (λ k z low g. none (suc k) z (omega arith) g))
+
+-- ---- spots and numbers
+
+pub length-spots_upto : (event n : ℕ) → length (spots_upto event n) ≡ n
+length-spots_upto event zero = refl
+length-spots_upto event (suc n) = omega (arith, length-append (spots_upto event n) (record { event = event; place = n } ∷ []), length-spots_upto event n)
+
+cond-cons : (b : Bool) (n : ℕ) (xs ys : List ℕ) → cond b (n ∷ (xs ++ ys)) (xs ++ ys) ≡ cond b (n ∷ xs) xs ++ ys
+cond-cons true n xs ys = refl
+cond-cons false n xs ys = refl
+
+pub empties-append : (n : ℕ) (xs ys : List Line) → empties n (xs ++ ys) ≡ empties n xs ++ empties (n + length xs) ys
+empties-append n [] ys = ap (λ k. empties k ys) (let e : n ≡ n + 0 = omega arith in e)
+empties-append n (l ∷ xs) ys =
+    let at : n + 1 + length xs ≡ n + suc (length xs) = omega arith in
+    let more = empties-append (n + 1) xs ys ∙ ap (λ k. empties (n + 1) xs ++ empties k ys) at in
+    ap (λ r. cond (is_empty l.stated.clause) (n ∷ r) r) more ∙ cond-cons (is_empty l.stated.clause) n (empties (n + 1) xs) (empties (n + suc (length xs)) ys)
+
+pub empties-more : (n k : ℕ) (lines : List Line) (l : Line) → slice_get lines k ≡ Some l → empties n (take (suc k) lines) ≡ empties n (take k lines) ++ empties (n + k) (l ∷ [])
+empties-more n zero [] l h = cc
+empties-more n (suc k) [] l h = cc
+empties-more n zero (x ∷ xs) l h = let e : x ≡ l = cc in rw e (ap (λ j. empties j (l ∷ [])) (let e : n ≡ n + 0 = omega arith in e))
+empties-more n (suc k) (x ∷ xs) l h =
+    let at : n + 1 + k ≡ n + suc k = omega arith in
+    let more = empties-more (n + 1) k xs l h ∙ ap (λ j. empties (n + 1) (take k xs) ++ empties j (l ∷ [])) at in
+    ap (λ r. cond (is_empty x.stated.clause) (n ∷ r) r) more ∙ cond-cons (is_empty x.stated.clause) n (empties (n + 1) (take k xs)) (empties (n + suc k) (l ∷ []))
+
+-- the steps of the first input clauses, with one more
+pub input_lines-more : (n k : ℕ) (cs : List Clause) (c : Clause) → slice_get cs k ≡ Some c → input_lines n (take (suc k) cs) ≡ input_lines n (take k cs) ++ input_line (n + k) c ∷ []
+input_lines-more n zero [] c h = cc
+input_lines-more n (suc k) [] c h = cc
+input_lines-more n zero (x ∷ xs) c h = let e : x ≡ c = cc in rw e (ap (λ j. input_line j c ∷ []) (let e : n ≡ n + 0 = omega arith in e))
+input_lines-more n (suc k) (x ∷ xs) c h =
+    let at : n + 1 + k ≡ n + suc k = omega arith in
+    ap (λ r. input_line n x ∷ r) (input_lines-more (n + 1) k xs c h ∙ ap (λ j. input_lines (n + 1) (take k xs) ++ input_line j c ∷ []) at)
+
+pub length-input_lines : (n : ℕ) (cs : List Clause) → length (input_lines n cs) ≡ length cs
+length-input_lines n [] = refl
+length-input_lines n (c ∷ cs) = omega (arith, length-input_lines (n + 1) cs)
+
+pub length-empties : (n : ℕ) (lines : List Line) → length (empties n lines) ≤ length lines
+length-empties n [] = omega arith
+length-empties n (l ∷ ls) = let h = length-empties (n + 1) ls in go (is_empty l.stated.clause) (empties (n + 1) ls) h
+  where
+    go : (b : Bool) (xs : List ℕ) → length xs ≤ length ls → length (cond b (n ∷ xs) xs) ≤ suc (length ls)
+    go true xs h = omega arith
+    go false xs h = omega arith

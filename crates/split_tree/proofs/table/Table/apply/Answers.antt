@@ -1,0 +1,138 @@
+use Rattle.std.proofs.Common.{◌≡◌, ◌∙◌, ℕ, ap, sym, length, ◌++◌, ◌∷◌, ◌+◌, arith, length-append}
+use Rattle.split_tree.specs.declared.event.Entry.{Entry}
+use Rattle.split_tree.specs.Journal.{nodes, steps, ledger, lines_of}
+use Rattle.split_tree.specs.Paths.{leaves, leaves_by}
+use Rattle.split_tree.specs.Facts.{waiting}
+use Rattle.split_tree.specs.Legal.{IsLegalJournal}
+use Rattle.split_tree.specs.Fields.{setting_of}
+use Rattle.split_tree.specs.Caches.{past_of, branches_by, homes, homes_by, HasFewChoices, IsNodeOf, spots, spots_upto, empties, states, states_by, seats, tally, tally_by}
+use Rattle.split_tree.proofs.Lists.{length-spots_upto, length-empties}
+use Rattle.split_tree.proofs.Places.{HasLines-legal, node_there, steps_more}
+use Rattle.split_tree.proofs.Bounds.{rounds_legal, rounds_bound, splits_legal, splits_bound, counted_legal, counted_bound}
+use Rattle.split_tree.proofs.States.{few_choices, length-states_by}
+use Rattle.split_tree.proofs.Past.{past_of-push, length-past_of, branches-push, homes-push, spots-push, states-push, seats-push, empties-push, length-branches_by, length-homes_by, splits_nodes, nodes_cost, waiting_more}
+use Rattle.split_tree.proofs.Lens.{branches_len, homes_len, states_len, seats_len}
+use Rattle.split_tree.proofs.table.Table.apply.Goals as goal
+
+pub overflow_cast-nodes : goal.overflow_cast-nodes
+overflow_cast-nodes c = omega (arith, c.len-nodes.ensures, branches_len c.self.inside c.self.invariant, c.self.invariant.few_nodes)
+
+pub overflow_cast-first : goal.overflow_cast-first
+overflow_cast-first c = omega (arith, c.len.ensures, homes_len c.self.inside c.self.invariant, c.self.invariant.few_steps)
+
+pub overflow_add-first : goal.overflow_add-first
+overflow_add-first c = omega (arith, c.len.ensures, homes_len c.self.inside c.self.invariant, c.self.invariant.few_steps)
+
+pub cost-cost-requires-clause-there : goal.cost-cost-requires-clause-there
+cost-cost-requires-clause-there c = c.requires.legal.worker
+
+pub add_homes-requires-clause-nodes : goal.add_homes-requires-clause-nodes
+add_homes-requires-clause-nodes c =
+    let t = c.self.inside in
+    let fits = rw (← c.self.view_is) at c.requires.event_fits in
+    omega (arith, c.len-nodes.ensures, branches_len t c.self.invariant, c.self.invariant.few_nodes, nodes_cost (past_of t.journal.items) c.args.by c.args.event)
+
+pub add_empties-requires-clause-few : goal.add_empties-requires-clause-few
+add_empties-requires-clause-few c =
+    let fits = rw (← c.self.view_is) at c.requires.steps_fit in
+    omega (arith, c.len.ensures, homes_len c.self.inside c.self.invariant, c.self.invariant.few_steps, ap length c.lines.ensures)
+
+pub note_node-requires-clause-there : goal.note_node-requires-clause-there
+note_node-requires-clause-there c =
+    let t = c.self.inside in
+    let legal = rw (← c.self.view_is) at c.requires.legal in
+    rw (states_len t c.self.invariant) (node_there (setting_of t) (past_of t.journal.items) c.self.invariant.legal c.args.by c.args.event legal.asked)
+
+pub note_node-requires-clause-few : goal.note_node-requires-clause-few
+note_node-requires-clause-few c =
+    let t = c.self.inside in
+    rw c.self.invariant.states_are (few_choices (setting_of t) (past_of t.journal.items) c.self.invariant.legal c.self.invariant.small.rounds)
+
+pub note_leaves-requires-clause-few : goal.note_leaves-requires-clause-few
+note_leaves-requires-clause-few c =
+    let t = c.self.inside in
+    let fits = rw (← c.self.view_is) at c.requires.event_fits in
+    omega (arith, c.len-nodes.ensures, branches_len t c.self.invariant, c.self.invariant.few_nodes, nodes_cost (past_of t.journal.items) c.args.by c.args.event)
+
+pub note_seat-requires-clause-there : goal.note_seat-requires-clause-there
+note_seat-requires-clause-there c =
+    let legal = rw (← c.self.view_is) at c.requires.legal in
+    omega (arith, seats_len c.self.inside c.self.invariant, legal.worker)
+
+pub after-self-inside-requires-clause-counted : goal.after-self-inside-requires-clause-counted
+after-self-inside-requires-clause-counted c =
+    let t = c.self.inside in
+    let p = past_of t.journal.items in
+    let s = setting_of t in
+    let legal = rw (← c.self.view_is) at c.requires.legal in
+    omega (arith, ap (λ x. x.counted) c.self.invariant.tally_is, counted_legal s p c.args.by c.args.event legal.asked (counted_bound s p c.self.invariant.legal), c.self.invariant.small.steps)
+
+pub after-self-inside-requires-clause-rounds : goal.after-self-inside-requires-clause-rounds
+after-self-inside-requires-clause-rounds c =
+    let t = c.self.inside in
+    let p = past_of t.journal.items in
+    let s = setting_of t in
+    let legal = rw (← c.self.view_is) at c.requires.legal in
+    omega (arith, ap (λ x. x.rounds) c.self.invariant.tally_is, rounds_legal s p c.args.by c.args.event legal.asked (rounds_bound s p c.self.invariant.legal), c.self.invariant.small.rounds)
+
+pub after-self-inside-requires-clause-splits : goal.after-self-inside-requires-clause-splits
+after-self-inside-requires-clause-splits c =
+    let t = c.self.inside in
+    let p = past_of t.journal.items in
+    let s = setting_of t in
+    let legal = rw (← c.self.view_is) at c.requires.legal in
+    omega (arith, ap (λ x. x.splits) c.self.invariant.tally_is, splits_legal s p c.args.by c.args.event legal.asked (splits_bound s p c.self.invariant.legal), c.self.invariant.small.splits)
+
+pub push_reserved-requires : goal.push_reserved-requires
+push_reserved-requires c =
+    let t = c.self.inside in
+    let fits = rw (← c.self.view_is) at c.requires.event_fits in
+    let legal = rw (← c.self.view_is) at c.requires.legal in
+    omega (arith, waiting_more (past_of t.journal.items) (record { by = c.args.by; event = c.args.event }) t.workers legal.some legal.worker, c.self.invariant.events_room)
+
+pub returns-clause-past : goal.returns-clause-past
+returns-clause-past c = rw (c.push_reserved.ensures.items, past_of-push, ← c.self.view_is)
+
+pub invariant_of-self : goal.invariant_of-self
+invariant_of-self c =
+    let t = c.self.inside in
+    let i = c.self.invariant in
+    let p = past_of t.journal.items in
+    let s = setting_of t in
+    let ev = c.args.event in
+    let e : Entry = record { by = c.args.by; event = ev } in
+    let legal = rw (← c.self.view_is) at c.requires.legal in
+    let fits = rw (← c.self.view_is) at c.requires.event_fits in
+    let steps_fit = rw (← c.self.view_is) at c.requires.steps_fit in
+    let after : IsLegalJournal s (e ∷ p) = (legal, i.legal) in
+    let is_past : past_of c.push_reserved.new.self.items ≡ e ∷ p = rw (c.push_reserved.ensures.items, past_of-push) in
+    let cost_is = rw (← c.self.view_is) at c.cost-cost.ensures in
+    let lines_are = c.lines-lines.ensures in
+    let count : c.len-nodes.result ≡ nodes p = omega (arith, c.len-nodes.ensures, branches_len t i) in
+    let first : c.len.result + 1 ≡ 1 + steps s p = omega (arith, c.len.ensures, homes_len t i) in
+    let at : c.len-2.result ≡ length p = omega (arith, length-past_of t.journal.items, c.len-2.ensures, t.journal.ok.0) in
+    record {
+      legal = rw is_past after;
+      opening_is = i.opening_is;
+      refuted_is = i.refuted_is;
+      branches_are = rw (is_past, branches-push, c.add_branches.ensures.items, i.branches_are);
+      homes_are = rw (is_past, homes-push, c.add_homes.ensures.items, i.homes_are) (ap (λ n. homes s p ++ homes_by ev n) count);
+      spots_are = rw (is_past, spots-push, c.add_spots.ensures.items, i.spots_are) (ap (λ n. spots p ++ spots_upto n (length c.lines-lines.result.now)) at ∙ ap (λ n. spots p ++ spots_upto (length p) n) (ap length lines_are));
+      empties_are = c.add_empties.ensures.items ∙ (ap (λ xs. xs ++ empties (c.len.result + 1) c.lines.result.now) i.empties_are ∙ (ap (λ n. empties 1 (ledger s p) ++ empties n c.lines.result.now) first ∙ (ap (λ ls. empties 1 (ledger s p) ++ empties (1 + steps s p) ls) c.lines.ensures ∙ (sym (empties-push s e p) ∙ ap (λ q. empties 1 (ledger s q)) (sym is_past)))));
+      states_are = rw (is_past, states-push, c.note_node.ensures.items, i.states_are);
+      seats_are = rw (is_past, seats-push, c.note_seat.ensures, i.seats_are);
+      leaves_are = c.note_leaves.ensures.items ∙ (ap (leaves_by ev c.len-nodes.result) i.leaves_are ∙ (ap (λ n. leaves_by ev n (leaves p)) count ∙ ap leaves (sym is_past)));
+      tally_is = c.after-self-inside.ensures ∙ (ap (tally_by ev) i.tally_is ∙ ap tally (sym is_past));
+      few_nodes = rw is_past (omega (arith, i.few_nodes, cost_is, nodes_cost p c.args.by ev));
+      few_steps = rw is_past (omega (arith, i.few_steps, steps_more s p e, ap length lines_are));
+      small = i.small;
+      some_workers = i.some_workers;
+      few_workers = i.few_workers;
+      events_room = rw is_past (omega (arith, c.push_reserved.ensures.len, c.push_reserved.ensures.capacity, i.events_room, waiting_more p e t.workers legal.some legal.worker, cost_is));
+      branches_room = omega (arith, c.add_branches.new.branches.ok.0, ap length c.add_branches.ensures.items, length-append t.branches.items (branches_by ev), length-branches_by ev, nodes_cost p c.args.by ev, cost_is, t.branches.ok.0, i.branches_room, c.add_branches.ensures.capacity);
+      states_room = omega (arith, c.note_node.new.states.ok.0, ap length c.note_node.ensures.items, length-states_by ev t.states.items, nodes_cost p c.args.by ev, cost_is, t.states.ok.0, i.states_room, c.note_node.ensures.capacity);
+      leaves_room = omega (arith, c.note_leaves.ensures.len, splits_nodes ev, nodes_cost p c.args.by ev, cost_is, i.leaves_room, c.note_leaves.ensures.capacity);
+      homes_room = omega (arith, c.add_homes.new.homes.ok.0, ap length c.add_homes.ensures.items, length-append t.homes.items (homes_by ev c.len-nodes.result), length-homes_by ev c.len-nodes.result (HasLines-legal s p c.args.by ev legal.asked), t.homes.ok.0, i.homes_room, c.add_homes.ensures.capacity, ap length lines_are);
+      spots_room = omega (arith, c.add_spots.new.spots.ok.0, ap length c.add_spots.ensures.items, length-append t.spots.items (spots_upto c.len-2.result (length c.lines-lines.result.now)), length-spots_upto c.len-2.result (length c.lines-lines.result.now), t.spots.ok.0, i.spots_room, c.add_spots.ensures.capacity, ap length lines_are);
+      empties_room = omega (arith, c.add_empties.ensures.len, i.empties_room, c.add_empties.ensures.capacity, ap length lines_are, ap length c.lines.ensures);
+    }

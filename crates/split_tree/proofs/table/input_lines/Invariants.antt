@@ -1,0 +1,6 @@
+use Rattle.std.proofs.Common.{◌≡◌, take}
+use Rattle.split_tree.specs.Journal.{input_lines}
+use Rattle.split_tree.proofs.table.input_lines.Given as goal
+
+abbrev pub invariant-loop-k : goal.invariant-loop-k
+invariant-loop-k l = l.lines ≡ input_lines 1 (take l.k l.input)
