@@ -1,15 +1,22 @@
 -- How long the lists are that a table keeps, and what a read of them tells.
-use Rattle.std.proofs.Common.{◌≡◌, ℕ, ◌-◌, ◌<◌, ◌≤◌, ◌∙◌, Option, Some, ap, sym, length, refl, arith, vec_len, get_or}
+use Rattle.std.proofs.Common.{◌≡◌, ℕ, ◌-◌, ◌<◌, ◌≤◌, ◌∙◌, Option, Some, ap, sym, length, reverse, refl, arith, vec_len, get_or}
 use Rattle.std.specs.List.{slice_get}
-use Rattle.std.proofs.lemmas.Option.{slice_get_read}
+use Rattle.std.proofs.lemmas.Option.{slice_get_read, slice_get_within, get_or_from_slice_get}
+use Rattle.split_tree.specs.declared.event.Entry.{Entry}
+use Rattle.split_tree.specs.declared.branch.Branch.{Branch}
+use Rattle.split_tree.specs.declared.caches.Spot.{Spot}
+use Rattle.split_tree.specs.Paths.{on_path, branch}
+use Rattle.split_tree.specs.Facts.{listed}
+use Rattle.split_tree.proofs.Branches.{branch_at}
+use Rattle.split_tree.proofs.Homes.{housed, Spotted, spotted}
 use Rattle.split_tree.specs.Journal.{Setting, nodes, steps, input_lines}
 use Rattle.split_tree.specs.declared.table.Table.TheInside.{Inside}
 use Rattle.split_tree.specs.declared.caches.Seat.{Seat}
 use Rattle.split_tree.specs.declared.caches.NodeState.{NodeState}
 use Rattle.split_tree.specs.Fields.{setting_of, IsTable}
-use Rattle.split_tree.specs.Caches.{past_of}
+use Rattle.split_tree.specs.Caches.{past_of, at_home}
 use Rattle.split_tree.proofs.Lists.{length-input_lines}
-use Rattle.split_tree.proofs.Past.{length-branches, length-homes}
+use Rattle.split_tree.proofs.Past.{length-branches, length-homes, reverse-past_of}
 use Rattle.split_tree.proofs.States.{length-states, length-seats, seat_at, seat_of, state_at, state_of}
 
 pub branches_len : (t : Inside) → IsTable t → vec_len t.branches ≡ nodes (past_of t.journal.items)
@@ -39,3 +46,35 @@ read_state t ok m x there read =
     let is = state_at (setting_of t) (past_of t.journal.items) ok.legal m there in
     let same : Some (state_of (past_of t.journal.items) m) ≡ Some x = sym is ∙ (ap (λ xs. slice_get xs m) (sym ok.states_are) ∙ got) in
     cc
+
+-- the branch that is read
+pub read_branch : (t : Inside) → IsTable t → (m : ℕ) (x : Option Branch) → m < nodes (past_of t.journal.items) → x ≡ get_or t.branches.items m x → branch (past_of t.journal.items) m ≡ x
+read_branch t ok m x there read =
+    let got = slice_get_read t.branches.items (length t.branches.items) m x refl (omega (arith, t.branches.ok.0, branches_len t ok)) read in
+    let same : Some (branch (past_of t.journal.items) m) ≡ Some x = sym (branch_at (past_of t.journal.items) m there) ∙ (ap (λ xs. slice_get xs m) (sym ok.branches_are) ∙ got) in
+    cc
+
+-- the home that is read
+pub read_home : (t : Inside) → IsTable t → (m i : ℕ) (o : Option ℕ) → m < nodes (past_of t.journal.items) → 1 ≤ i → i ≤ steps (setting_of t) (past_of t.journal.items) → o ≡ get_or t.homes.items (i - 1) o
+    → listed (setting_of t) (past_of t.journal.items) m i ≡ at_home (on_path (past_of t.journal.items) m) o
+read_home t ok m i o there some in_range read =
+    let long = homes_len t ok in
+    let got = slice_get_read t.homes.items (length t.homes.items) (i - 1) o refl (omega (arith, t.homes.ok.0)) read in
+    (housed (setting_of t) (past_of t.journal.items) ok.legal m i there some o (ap (λ xs. slice_get xs (i - 1)) (sym ok.homes_are) ∙ got)).0
+
+-- the spot that is read
+pub read_spot : (t : Inside) → IsTable t → (k : ℕ) (p : Spot) → k < vec_len t.spots → p ≡ get_or t.spots.items k p → Spotted (setting_of t) (past_of t.journal.items) k p
+read_spot t ok k p low read =
+    let got = slice_get_read t.spots.items (length t.spots.items) k p refl (omega (arith, t.spots.ok.0)) read in
+    spotted (setting_of t) (past_of t.journal.items) k p (ap (λ xs. slice_get xs k) (sym ok.spots_are) ∙ got)
+
+-- the entry at a spot, as it is read
+pub read_entry : (t : Inside) → (k : ℕ) (p : Spot) (e : Entry) → (r : Spotted (setting_of t) (past_of t.journal.items) k p) → e ≡ get_or t.journal.items p.event e → r.entry ≡ e
+read_entry t k p e r read =
+    let is : slice_get t.journal.items p.event ≡ Some r.entry = ap (λ xs. slice_get xs p.event) (sym (reverse-past_of t.journal.items)) ∙ r.is in
+    sym (get_or_from_slice_get t.journal.items p.event r.entry e is) ∙ sym read
+
+pub spot_within : (t : Inside) → (k : ℕ) (p : Spot) → Spotted (setting_of t) (past_of t.journal.items) k p → p.event < vec_len t.journal
+spot_within t k p r =
+    let b = slice_get_within (reverse (past_of t.journal.items)) p.event r.entry r.is in
+    omega (arith, t.journal.ok.0, ap length (reverse-past_of t.journal.items))

@@ -4,4 +4,6 @@ pub mod Climb
 pub mod Bounds
 pub mod States
 pub mod Past
+pub mod Branches
+pub mod Homes
 pub mod Lens

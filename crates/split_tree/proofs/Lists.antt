@@ -1,5 +1,5 @@
 -- Lists with more at their end, or with an item changed.
-use Rattle.std.proofs.Common.{◌≡◌, ℕ, zero, suc, ◌+◌, ◌-◌, ◌<◌, ◌≤◌, Bool, true, false, cond, eqb, eq-eqb, List, [], ◌∷◌, ◌++◌, length, map, take, Option, Some, None, refl, sym, ◌∙◌, ap, arith, length-append, append_assoc, add-one}
+use Rattle.std.proofs.Common.{◌≡◌, ℕ, zero, suc, ◌+◌, ◌-◌, ◌<◌, ◌≤◌, Bool, true, false, cond, eqb, eq-eqb, List, [], ◌∷◌, ◌++◌, length, map, take, get_or, Option, Some, None, refl, sym, ◌∙◌, ap, arith, length-append, append_assoc, add-one}
 use Rattle.std.specs.Prelude.{slice_set, insert}
 use Rattle.std.specs.List.{slice_get}
 use Rattle.std.specs.Option.{option_map}
@@ -8,6 +8,7 @@ use Rattle.spl_terms.specs.declared.clause.Clause.{Clause}
 use Rattle.spl_terms.specs.Clauses.{is_empty}
 use Rattle.proof_steps.specs.declared.step.Line.{Line}
 use Rattle.proof_steps.specs.Spots.{changed_at}
+use Rattle.proof_steps.specs.Steps.{numbered}
 use Rattle.split_tree.specs.declared.caches.Spot.{Spot}
 use Rattle.split_tree.specs.Journal.{input_line, input_lines}
 use Rattle.split_tree.specs.Paths.{replaced}
@@ -112,6 +113,57 @@ input_lines-more n (suc k) (x ∷ xs) c h =
 pub length-input_lines : (n : ℕ) (cs : List Clause) → length (input_lines n cs) ≡ length cs
 length-input_lines n [] = refl
 length-input_lines n (c ∷ cs) = omega (arith, length-input_lines (n + 1) cs)
+
+pub numbered_get : {A : Type 0} (xs : List A) (n : ℕ) → 1 ≤ n → numbered xs n ≡ slice_get xs (n - 1)
+numbered_get xs zero h = absurd (omega arith)
+numbered_get xs (suc k) h = ap (slice_get xs) (let e : k ≡ suc k - 1 = omega arith in e)
+
+-- a number among those of the empty clauses is that of one
+pub record IsEmptyLine (n i : ℕ) (lines : List Line) : Type 0 where
+  pub low : n ≤ i
+  pub line : Line
+  pub found : slice_get lines (i - n) ≡ Some line
+  pub empty : is_empty line.stated.clause ≡ true
+
+later_empty : (n i : ℕ) (l : Line) (ls : List Line) → IsEmptyLine (n + 1) i ls → IsEmptyLine n i (l ∷ ls)
+later_empty n i l ls r =
+    let low = r.low in
+    let e : i - n ≡ suc (i - (n + 1)) = omega arith in
+    record { low = omega arith; line = r.line; found = ap (slice_get (l ∷ ls)) e ∙ r.found; empty = r.empty }
+
+head_empty : (n k i : ℕ) (l : Line) (ls : List Line) → ((j : ℕ) → slice_get (empties (n + 1) ls) j ≡ Some i → IsEmptyLine (n + 1) i ls) → (b : Bool) → is_empty l.stated.clause ≡ b
+    → slice_get (cond b (n ∷ empties (n + 1) ls) (empties (n + 1) ls)) k ≡ Some i → IsEmptyLine n i (l ∷ ls)
+head_empty n zero i l ls more true e h =
+    let q : n ≡ i = cc in
+    let z : i - n ≡ 0 = omega arith in
+    record { low = omega arith; line = l; found = ap (slice_get (l ∷ ls)) z; empty = e }
+head_empty n (suc k) i l ls more true e h = later_empty n i l ls (more k h)
+head_empty n k i l ls more false e h = later_empty n i l ls (more k h)
+
+pub get_empty : (n : ℕ) (lines : List Line) (k i : ℕ) → slice_get (empties n lines) k ≡ Some i → IsEmptyLine n i lines
+get_empty n [] k i h = cc
+get_empty n (l ∷ ls) k i h = head_empty n k i l ls (λ j g. get_empty (n + 1) ls j i g) (is_empty l.stated.clause) refl h
+
+pub get_or_some : (xs : List ℕ) (k : ℕ) → k < length xs → slice_get xs k ≡ Some (get_or xs k 0)
+get_or_some [] k h = absurd (omega arith)
+get_or_some (x ∷ xs) zero h = refl
+get_or_some (x ∷ xs) (suc k) h = get_or_some xs k (omega arith)
+
+-- an empty clause has its number among them
+pub empty_found : (n j : ℕ) (lines : List Line) (l : Line) → slice_get lines j ≡ Some l → is_empty l.stated.clause ≡ true → (k : ℕ) × (slice_get (empties n lines) k ≡ Some (n + j))
+empty_found n j [] l h e = cc
+empty_found n zero (x ∷ xs) l h e =
+    let q : x ≡ l = cc in
+    let t : is_empty x.stated.clause ≡ true = ap (λ y. is_empty y.stated.clause) q ∙ e in
+    (0, ap (λ b. slice_get (cond b (n ∷ empties (n + 1) xs) (empties (n + 1) xs)) 0) t ∙ ap Some (let z : n ≡ n + 0 = omega arith in z))
+empty_found n (suc j) (x ∷ xs) l h e =
+    let r = empty_found (n + 1) j xs l h e in
+    let z : n + 1 + j ≡ n + suc j = omega arith in
+    go (is_empty x.stated.clause) r.0 (r.1 ∙ ap Some z)
+  where
+    go : (b : Bool) (k : ℕ) → slice_get (empties (n + 1) xs) k ≡ Some (n + suc j) → (k : ℕ) × (slice_get (cond b (n ∷ empties (n + 1) xs) (empties (n + 1) xs)) k ≡ Some (n + suc j))
+    go true k h = (suc k, h)
+    go false k h = (k, h)
 
 pub length-empties : (n : ℕ) (lines : List Line) → length (empties n lines) ≤ length lines
 length-empties n [] = omega arith

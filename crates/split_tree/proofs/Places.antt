@@ -113,7 +113,7 @@ lists_new s past w (Publish node chain put_off) count on m i p h = at_last (on n
 lists_new s past w (Split node lines put_off) count on m i p h = in_split (eqb m count) (eqb m (count + 1)) i (steps s past) (length lines) h (omega (arith, two_lines s past w node lines put_off p.asked))
 lists_new s past w _ count on m i p h = absurd (false≢true h)
 
-in_input : (x : Bool) (i n : ℕ) → (x && (leb 1 i && leb i n)) ≡ true → (1 ≤ i) × (i ≤ n)
+pub in_input : (x : Bool) (i n : ℕ) → (x && (leb 1 i && leb i n)) ≡ true → (1 ≤ i) × (i ≤ n)
 in_input x i n h =
     let b = and_parts (leb 1 i) (leb i n) (and_parts x (leb 1 i && leb i n) h).1 in
     (leb-true 1 i b.0, leb-true i n b.1)

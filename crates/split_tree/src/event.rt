@@ -1,4 +1,4 @@
-ghost use Rattle.std.specs.Prelude.{◌≡◌};
+ghost use Rattle.std.specs.Prelude.{◌≡◌, ◌<◌, length, slice_get, Some};
 ghost use Rattle.split_tree.specs.Journal.{IsSmall, lines_of, is_counted, count_of};
 ghost use Rattle.split_tree.specs.Paths.{subject};
 ghost use Rattle.split_tree.specs.Facts.{is_stop, claimed_by};
@@ -169,6 +169,14 @@ impl Event {
             Event::Split { steps, .. } => steps.as_slice(),
             _ => &[],
         }
+    }
+
+    /// The step at this place of those that the event adds, from 0.
+    pub(crate) fn line(&self, place: usize) -> &Line
+        requires { place < length (lines_of self.now) }
+        ensures { slice_get (lines_of self.now) place ≡ Some result.now }
+    {
+        &self.lines()[place]
     }
 
     /// Whether a worker stops.

@@ -1,4 +1,6 @@
 //! The table: a legal journal, and what is computed from it.
+mod reading;
+
 ghost use Rattle.std.specs.Prelude.{◌≡◌, ◌-◌, ◌<◌, ◌≤◌, ◌^◌, ◌&&◌, not, if◌then◌else◌, IfOk, OnOk, OnErr, [], ◌∷◌, length, replicate, Some};
 ghost use Rattle.spl_terms.specs.Clauses.{is_empty};
 ghost use Rattle.split_tree.specs.Journal.{input_line, input_lines, lines_of};
