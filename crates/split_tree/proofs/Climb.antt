@@ -55,7 +55,7 @@ on_path_root s (e ∷ past) legal n other =
 
 -- ---- leaves
 
-not_true : (b : Bool) → not b ≡ true → b ≡ true → ⊥
+pub not_true : (b : Bool) → not b ≡ true → b ≡ true → ⊥
 not_true true h e = false≢true h
 not_true false h e = false≢true e
 

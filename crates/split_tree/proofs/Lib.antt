@@ -6,4 +6,5 @@ pub mod States
 pub mod Past
 pub mod Branches
 pub mod Homes
+pub mod Leaves
 pub mod Lens

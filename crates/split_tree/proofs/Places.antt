@@ -23,7 +23,7 @@ steps_more s past e = length-append (ledger s past) (lines_of e.event)
 -- ---- claimed nodes
 
 claims_there : (s : Setting) (past : List Entry) (w : ℕ) (ev : Event) (o : Option ℕ) (n : ℕ) → IsAsked s past w ev → claimed_by ev o ≡ Some n → (o ≡ Some n → n < nodes past) → n < nodes past + nodes_of ev
-claims_there s past w (Claim node) o n p h old = let low = p.there in let q : node ≡ n = cc in omega arith
+claims_there s past w (Claim node) o n p h old = let low = p.claimable.there in let q : node ≡ n = cc in omega arith
 claims_there s past w ev o n p h old = let low = old h in omega arith
 
 -- a worker has claimed a node

@@ -15,7 +15,7 @@ use Rattle.split_tree.specs.declared.event.Entry.{Entry}
 use Rattle.split_tree.specs.declared.event.Event.{Event}
 use Rattle.split_tree.specs.declared.event.Event.TheVariants.{Claim, Choose, Publish, Split, Activate, Saturated, Spent, Big, Full, Stop}
 use Rattle.split_tree.specs.Journal.{Setting, ledger, nodes, rounds, splits, counted, count_of}
-use Rattle.split_tree.specs.Paths.{owner, is_leaf, branch, branch_to}
+use Rattle.split_tree.specs.Paths.{owner, is_leaf, leaves, branch, branch_to}
 use Rattle.split_tree.specs.Facts.{listed, kept, worked, chosen, IsEmptyAt, IsLive, Holds, is_stop, before_choice, published_since}
 use Rattle.split_tree.specs.Picking.{pick_at}
 use Rattle.split_tree.specs.Ending.{first_end}
@@ -40,11 +40,22 @@ IsSettled s past = (m : ℕ) → m < nodes past → is_leaf past m ≡ false →
 
 -- ---- claiming and choosing
 
+-- m is a live leaf that nobody holds
+pub record IsClaimable (s : Setting) (past : List Entry) (m : ℕ) : Type 0 where
+  pub there : m < nodes past
+  pub leaf : is_leaf past m ≡ true
+  pub live : IsLive s past m
+  pub free : (v : ℕ) → ¬ Holds s past v m
+
+-- m is the leftmost of these
+pub record IsNextClaim (s : Setting) (past : List Entry) (m : ℕ) : Type 0 where
+  pub claimable : IsClaimable s past m
+  pub place : ℕ
+  pub found : slice_get (leaves past) place ≡ Some m
+  pub first : (k n : ℕ) → k < place → slice_get (leaves past) k ≡ Some n → ¬ IsClaimable s past n
+
 pub record IsLegalClaim (s : Setting) (past : List Entry) (w node : ℕ) : Type 0 where
-  pub there : node < nodes past
-  pub leaf : is_leaf past node ≡ true
-  pub live : IsLive s past node
-  pub free : (v : ℕ) → ¬ Holds s past v node
+  pub claimable : IsClaimable s past node
   pub idle : (n : ℕ) → ¬ Holds s past w n
   pub settled : IsSettled s past
 

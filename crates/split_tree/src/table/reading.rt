@@ -5,6 +5,7 @@ ghost use Rattle.split_tree.specs.Journal.{ledger, nodes, steps, counted, rounds
 ghost use Rattle.split_tree.specs.Paths.{on_path, branch, is_leaf, leaves};
 ghost use Rattle.split_tree.specs.Facts.{listed, kept, chosen, claimed, IsDead, IsLive, Holds};
 ghost use Rattle.split_tree.specs.Ending.{reason};
+ghost use Rattle.split_tree.specs.Legal.{IsClaimable, IsNextClaim};
 
 use super::Table;
 use crate::branch::Branch;
@@ -221,5 +222,94 @@ impl Table {
             }
         }
         true
+    }
+}
+
+// ---- workers
+
+impl Table {
+    /// The node of the worker's last Claim.
+    fn claimed(&self, worker: u32) -> Option<u32>
+        requires some { 1 ≤ worker }
+        requires there { worker ≤ self.now.setting.workers }
+        ensures { result ≡ claimed self.now.past worker }
+    {
+        self.seats[worker as usize - 1].claimed
+    }
+
+    /// The node that the worker holds: that of its last Claim, while it is live and a leaf.
+    pub fn held(&self, worker: u32) -> Option<u32>
+        requires some { 1 ≤ worker }
+        requires there { worker ≤ self.now.setting.workers }
+        ensures { MatchOption result ((m : ℕ) → ¬ Holds self.now.setting self.now.past worker m) (λ m. Holds self.now.setting self.now.past worker m) }
+    {
+        self.journal_is_legal();
+        match self.claimed(worker) {
+            None => None,
+            Some(node) => {
+                if self.leaf(node) && self.live(node) {
+                    Some(node)
+                } else {
+                    None
+                }
+            }
+        }
+    }
+
+    /// Whether the node is that of no worker's last Claim.
+    fn unclaimed(&self, node: u32) -> bool
+        ensures { MatchBool result ((w : ℕ) → 1 ≤ w → w ≤ self.now.setting.workers → ¬ (claimed self.now.past w ≡ Some node)) ((w : ℕ) × (claimed self.now.past w ≡ Some node)) }
+    {
+        for k in 0..self.workers() {
+            if self.claimed(k + 1) == Some(node) {
+                return false;
+            }
+        }
+        true
+    }
+
+    /// Whether the node is a live leaf that nobody holds.
+    fn claimable(&self, node: u32) -> bool
+        requires { node < nodes self.now.past }
+        ensures { MatchBool result (IsClaimable self.now.setting self.now.past node) (¬ IsClaimable self.now.setting self.now.past node) }
+    {
+        self.journal_is_legal();
+        if !self.leaf(node) {
+            return false;
+        }
+        if !self.live(node) {
+            return false;
+        }
+        self.unclaimed(node)
+    }
+
+    /// How many leaves there are.
+    fn leaf_count(&self) -> usize
+        ensures { result ≡ length (leaves self.now.past) }
+    {
+        self.leaves.len()
+    }
+
+    /// The leaf at this place from the left, from 0.
+    fn leaf_at(&self, place: usize) -> u32
+        requires { place < length (leaves self.now.past) }
+        ensures found { slice_get (leaves self.now.past) place ≡ Some result }
+        ensures there { result < nodes self.now.past }
+    {
+        self.leaves[place]
+    }
+
+    /// The leftmost live leaf that nobody holds; none exactly where there is none.
+    pub fn claim_next(&self) -> Option<u32>
+        ensures { MatchOption result ((m : ℕ) → ¬ IsClaimable self.now.setting self.now.past m) (λ m. IsNextClaim self.now.setting self.now.past m) }
+    {
+        self.journal_is_legal();
+        for place in 0..self.leaf_count() {
+            let node = self.leaf_at(place);
+            if self.claimable(node) {
+                return Some(node);
+            }
+        }
+        None
     }
 }
