@@ -14,8 +14,8 @@ use Rattle.split_tree.specs.declared.table.Table.TheInside.{Inside}
 use Rattle.split_tree.specs.declared.caches.Seat.{Seat}
 use Rattle.split_tree.specs.declared.caches.NodeState.{NodeState}
 use Rattle.split_tree.specs.Fields.{setting_of, IsTable}
-use Rattle.split_tree.specs.Caches.{past_of, at_home}
-use Rattle.split_tree.proofs.Lists.{length-input_lines}
+use Rattle.split_tree.specs.Caches.{past_of, at_home, retired, firsts_upto}
+use Rattle.split_tree.proofs.Lists.{length-input_lines, length-firsts_upto}
 use Rattle.split_tree.proofs.Past.{length-branches, length-homes, reverse-past_of}
 use Rattle.split_tree.proofs.States.{length-states, length-seats, seat_at, seat_of, state_at, state_of}
 
@@ -30,6 +30,9 @@ states_len t ok = omega (arith, t.states.ok.0, ap length ok.states_are, length-s
 
 pub seats_len : (t : Inside) → IsTable t → vec_len t.seats ≡ t.workers
 seats_len t ok = omega (arith, t.seats.ok.0, ap length ok.seats_are, length-seats t.workers (past_of t.journal.items))
+
+pub firsts_len : (t : Inside) → IsTable t → vec_len t.firsts ≡ steps (setting_of t) (past_of t.journal.items)
+firsts_len t ok = omega (arith, t.firsts.ok.0, ap length ok.firsts_are, length-firsts_upto (steps (setting_of t) (past_of t.journal.items)) (retired (past_of t.journal.items)))
 
 -- the seat that is read
 pub read_seat : (t : Inside) → IsTable t → (w : ℕ) (x : Seat) → 1 ≤ w → w ≤ t.workers → x ≡ get_or t.seats.items (w - 1) x → seat_of (past_of t.journal.items) w ≡ x

@@ -6,5 +6,6 @@ pub mod States
 pub mod Past
 pub mod Branches
 pub mod Homes
+pub mod Picks
 pub mod Leaves
 pub mod Lens

@@ -1,18 +1,20 @@
 -- Lists with more at their end, or with an item changed.
-use Rattle.std.proofs.Common.{◌≡◌, ℕ, zero, suc, ◌+◌, ◌-◌, ◌<◌, ◌≤◌, Bool, true, false, cond, eqb, eq-eqb, List, [], ◌∷◌, ◌++◌, length, map, take, get_or, Option, Some, None, refl, sym, ◌∙◌, ap, arith, length-append, append_assoc, add-one}
+use Rattle.std.proofs.Common.{◌≡◌, ℕ, zero, suc, ◌+◌, ◌-◌, ◌<◌, ◌≤◌, Bool, true, false, cond, eqb, eq-eqb, List, [], ◌∷◌, ◌++◌, length, map, take, get_or, replicate, inl, inr, ◌⊎◌, Option, Some, None, refl, sym, ◌∙◌, ap, arith, length-append, append_assoc, add-one}
 use Rattle.std.specs.Prelude.{slice_set, insert}
 use Rattle.std.specs.List.{slice_get}
 use Rattle.std.specs.Option.{option_map}
-use Rattle.std.proofs.lemmas.Bool.{cond-true, cond-false, ne_eqb}
+use Rattle.std.proofs.lemmas.Bool.{cond-true, cond-false, ne_eqb, eqb-true, cases_lt, cases_Bool}
+use Rattle.std.proofs.lemmas.List.{length-replicate}
 use Rattle.spl_terms.specs.declared.clause.Clause.{Clause}
-use Rattle.spl_terms.specs.Clauses.{is_empty}
+use Rattle.spl_terms.specs.Clauses.{is_empty, clause_symbols}
 use Rattle.proof_steps.specs.declared.step.Line.{Line}
 use Rattle.proof_steps.specs.Spots.{changed_at}
 use Rattle.proof_steps.specs.Steps.{numbered}
 use Rattle.split_tree.specs.declared.caches.Spot.{Spot}
+use Rattle.split_tree.specs.declared.caches.Retired.{Retired}
 use Rattle.split_tree.specs.Journal.{input_line, input_lines}
 use Rattle.split_tree.specs.Paths.{replaced}
-use Rattle.split_tree.specs.Caches.{spots_upto, empties}
+use Rattle.split_tree.specs.Caches.{spots_upto, empties, first_node, firsts_upto, or_first, weights, AreSmall}
 
 pub get_more : {A : Type 0} (xs ys : List A) (k : ℕ) (x : A) → slice_get xs k ≡ Some x → slice_get (xs ++ ys) k ≡ Some x
 get_more [] ys k x h = cc
@@ -172,3 +174,124 @@ length-empties n (l ∷ ls) = let h = length-empties (n + 1) ls in go (is_empty 
     go : (b : Bool) (xs : List ℕ) → length xs ≤ length ls → length (cond b (n ∷ xs) xs) ≤ suc (length ls)
     go true xs h = omega arith
     go false xs h = omega arith
+
+-- ---- lists that are the same at each place
+
+pub same_lists : {A : Type 0} (xs ys : List A) → length xs ≡ length ys → ((k : ℕ) → k < length xs → slice_get xs k ≡ slice_get ys k) → xs ≡ ys
+same_lists [] [] long same = refl
+same_lists [] (y ∷ ys) long same = absurd (omega arith)
+same_lists (x ∷ xs) [] long same = absurd (omega arith)
+same_lists (x ∷ xs) (y ∷ ys) long same =
+    let h = same 0 (omega arith) in
+    let q : x ≡ y = cc in
+    let t : xs ≡ ys = same_lists xs ys (omega arith) (λ k low. same (suc k) (omega arith)) in
+    λ i. q i ∷ t i
+
+pub get_copies : {A : Type 0} (n k : ℕ) (x : A) → k < n → slice_get (replicate n x) k ≡ Some x
+get_copies zero k x h = absurd (omega arith)
+get_copies (suc n) zero x h = refl
+get_copies (suc n) (suc k) x h = get_copies n k x (omega arith)
+
+-- ---- where clauses were first activated or split
+
+pub length-firsts_upto : (n : ℕ) (rs : List Retired) → length (firsts_upto n rs) ≡ n
+length-firsts_upto zero rs = refl
+length-firsts_upto (suc n) rs = omega (arith, length-append (firsts_upto n rs) (first_node (suc n) rs ∷ []), length-firsts_upto n rs)
+
+pub firsts_at : (n k : ℕ) (rs : List Retired) → k < n → slice_get (firsts_upto n rs) k ≡ Some (first_node (suc k) rs)
+firsts_at zero k rs h = absurd (omega arith)
+firsts_at (suc n) k rs h =
+    let long = length-firsts_upto n rs in
+    elim (cases_lt k n) [
+      | inl low ↦ get_left (firsts_upto n rs) (first_node (suc n) rs ∷ []) k (omega arith) ∙ firsts_at n k rs low
+      | inr high ↦
+          let at : k ≡ length (firsts_upto n rs) + 0 = omega arith in
+          let q : n ≡ k = omega arith in
+          ap (slice_get (firsts_upto n rs ++ first_node (suc n) rs ∷ [])) at ∙ (get_right (firsts_upto n rs) (first_node (suc n) rs ∷ []) 0 ∙ ap (λ j. Some (first_node (suc j) rs)) q)
+    ]
+
+first_cond : (b : Bool) (node n : ℕ) (o : Option ℕ) → or_first node (cond b (Some n) o) ≡ cond b (Some n) (or_first node o)
+first_cond true node n o = refl
+first_cond false node n o = refl
+
+first_same : (i : ℕ) (rs : List Retired) (r : Retired) → r.clause ≡ i → first_node i (rs ++ r ∷ []) ≡ or_first r.node (first_node i rs)
+first_same i [] r e = cond-true (eqb r.clause i) (Some r.node) None (eq-eqb r.clause i e)
+first_same i (x ∷ rs) r e = ap (cond (eqb x.clause i) (Some x.node)) (first_same i rs r e) ∙ sym (first_cond (eqb x.clause i) r.node x.node (first_node i rs))
+
+first_other : (i : ℕ) (rs : List Retired) (r : Retired) → (r.clause ≡ i → ⊥) → first_node i (rs ++ r ∷ []) ≡ first_node i rs
+first_other i [] r h = cond-false (eqb r.clause i) (Some r.node) None (ne_eqb r.clause i h)
+first_other i (x ∷ rs) r h = ap (cond (eqb x.clause i) (Some x.node)) (first_other i rs r h)
+
+-- one more
+pub firsts-note : (n : ℕ) (rs : List Retired) (r : Retired) → 1 ≤ r.clause → changed_at (r.clause - 1) (or_first r.node) (firsts_upto n rs) ≡ firsts_upto n (rs ++ r ∷ [])
+firsts-note n rs r some =
+    let f = or_first r.node in
+    let xs = firsts_upto n rs in
+    same_lists (changed_at (r.clause - 1) f xs) (firsts_upto n (rs ++ r ∷ [])) (omega (arith, length-changed_at (r.clause - 1) f xs, length-firsts_upto n rs, length-firsts_upto n (rs ++ r ∷ [])))
+    (λ k low.
+      let below : k < n = omega (arith, length-changed_at (r.clause - 1) f xs, length-firsts_upto n rs) in
+      elim (cases_eq k (r.clause - 1)) [
+        | inl same ↦
+            let q : r.clause ≡ suc k = omega arith in
+            ap (λ j. slice_get (changed_at j f xs) k) (sym same) ∙ (changed_at-here k f xs ∙ (ap (option_map f) (firsts_at n k rs below) ∙ (ap Some (sym (first_same (suc k) rs r q)) ∙ sym (firsts_at n k (rs ++ r ∷ []) below))))
+        | inr apart ↦
+            changed_at-elsewhere (r.clause - 1) k f xs apart ∙ (firsts_at n k rs below ∙ (ap Some (sym (first_other (suc k) rs r (λ e. apart (omega arith)))) ∙ sym (firsts_at n k (rs ++ r ∷ []) below)))
+      ])
+  where
+    cases_eq : (a b : ℕ) → (a ≡ b) ⊎ (a ≡ b → ⊥)
+    cases_eq a b = elim (cases_Bool (eqb a b)) [ inl t ↦ inl (eqb-true a b t) | inr f ↦ inr (λ q. let t = eq-eqb a b q in cc) ]
+
+-- the clauses have one of the first n numbers
+abbrev pub AreNumbered : ℕ → List Retired → Type 0
+AreNumbered n rs = (k : ℕ) (r : Retired) → slice_get rs k ≡ Some r → (1 ≤ r.clause) × (r.clause ≤ n)
+
+first_none : (n i : ℕ) (rs : List Retired) → AreNumbered n rs → n < i → first_node i rs ≡ None
+first_none n i [] each h = refl
+first_none n i (r ∷ rs) each h = cond-false (eqb r.clause i) (Some r.node) (first_node i rs) (ne_eqb r.clause i (λ q. let b = each 0 r refl in omega (arith, b.1))) ∙ first_none n i rs (λ k x g. each (suc k) x g) h
+
+-- more numbers
+pub firsts-more : (n m : ℕ) (rs : List Retired) → AreNumbered n rs → firsts_upto (n + m) rs ≡ firsts_upto n rs ++ replicate m None
+firsts-more n m rs each =
+    let xs = firsts_upto n rs in
+    let none : List (Option ℕ) = replicate m None in
+    let long = length-replicate m (let o : Option ℕ = None in o) in
+    same_lists (firsts_upto (n + m) rs) (xs ++ none) (omega (arith, length-append xs none, length-firsts_upto n rs, length-firsts_upto (n + m) rs))
+    (λ k low.
+      let below : k < n + m = omega (arith, length-firsts_upto (n + m) rs) in
+      firsts_at (n + m) k rs below ∙ elim (cases_lt k n) [
+        | inl old ↦ sym (get_left xs none k (omega (arith, length-firsts_upto n rs)) ∙ firsts_at n k rs old)
+        | inr new ↦
+            let at : k ≡ length xs + (k - n) = omega (arith, length-firsts_upto n rs) in
+            ap Some (first_none n (suc k) rs each (omega arith)) ∙ sym (ap (slice_get (xs ++ none)) at ∙ (get_right xs none (k - n) ∙ get_copies m (k - n) None (omega arith)))
+      ])
+
+pub firsts_none : (n : ℕ) → firsts_upto n [] ≡ replicate n None
+firsts_none n = ap (λ j. firsts_upto j []) (let e : n ≡ 0 + n = omega arith in e) ∙ firsts-more 0 n [] (λ k r h. cc)
+
+-- ---- sizes
+
+pub weights-append : (xs ys : List Line) → weights (xs ++ ys) ≡ weights xs ++ weights ys
+weights-append [] ys = refl
+weights-append (x ∷ xs) ys = ap (λ r. clause_symbols x.stated.clause ∷ r) (weights-append xs ys)
+
+pub weights-more : (k : ℕ) (xs : List Line) (l : Line) → slice_get xs k ≡ Some l → weights (take (suc k) xs) ≡ weights (take k xs) ++ clause_symbols l.stated.clause ∷ []
+weights-more k [] l h = cc
+weights-more zero (x ∷ xs) l h = let q : x ≡ l = cc in ap (λ y. clause_symbols y.stated.clause ∷ []) q
+weights-more (suc k) (x ∷ xs) l h = ap (λ r. clause_symbols x.stated.clause ∷ r) (weights-more k xs l h)
+
+pub weights_at : (k : ℕ) (xs : List Line) (l : Line) → slice_get xs k ≡ Some l → slice_get (weights xs) k ≡ Some (clause_symbols l.stated.clause)
+weights_at k [] l h = cc
+weights_at zero (x ∷ xs) l h = let q : x ≡ l = cc in ap (λ y. Some (clause_symbols y.stated.clause)) q
+weights_at (suc k) (x ∷ xs) l h = weights_at k xs l h
+
+pub AreSmall-append : (xs ys : List Line) → AreSmall xs → AreSmall ys → AreSmall (xs ++ ys)
+AreSmall-append xs ys a b k l h = elim (cases_lt k (length xs)) [
+  | inl low ↦ a k l (sym (get_left xs ys k low) ∙ h)
+  | inr high ↦
+      let at : k ≡ length xs + (k - length xs) = omega arith in
+      b (k - length xs) l (sym (ap (slice_get (xs ++ ys)) at ∙ get_right xs ys (k - length xs)) ∙ h)
+]
+
+pub length-weights : (xs : List Line) → length (weights xs) ≡ length xs
+length-weights [] = refl
+length-weights (x ∷ xs) = omega (arith, length-weights xs)

@@ -1,6 +1,6 @@
 -- What a table keeps beside its journal, computed from the journal.
-use Rattle.std.specs.Prelude.{◌≡◌, ℕ, zero, suc, ◌+◌, ◌-◌, ◌<◌, ◌^◌, Bool, true, false, ◌||◌, List, [], ◌∷◌, ◌++◌, length, reverse, replicate, Option, Some, None, slice_get, if◌then◌else◌}
-use Rattle.spl_terms.specs.Clauses.{is_empty}
+use Rattle.std.specs.Prelude.{◌≡◌, ℕ, zero, suc, ◌+◌, ◌-◌, ◌<◌, ◌≤◌, ◌^◌, Bool, true, false, ◌||◌, ◌==◌, List, [], ◌∷◌, ◌++◌, length, map, option_map, reverse, replicate, Option, Some, None, slice_get, if◌then◌else◌}
+use Rattle.spl_terms.specs.Clauses.{is_empty, clause_symbols}
 use Rattle.proof_steps.specs.declared.step.Line.{Line}
 use Rattle.proof_steps.specs.Spots.{changed_at}
 use Rattle.split_tree.specs.declared.event.Entry.{Entry}
@@ -9,11 +9,12 @@ use Rattle.split_tree.specs.declared.event.Event.TheVariants.{Choose, Publish, S
 use Rattle.split_tree.specs.declared.branch.Branch.{Branch}
 use Rattle.split_tree.specs.declared.caches.Spot.{Spot}
 use Rattle.split_tree.specs.declared.caches.NodeState.{NodeState}
+use Rattle.split_tree.specs.declared.caches.Retired.{Retired}
 use Rattle.split_tree.specs.declared.caches.Seat.{Seat}
 use Rattle.split_tree.specs.declared.caches.Tally.{Tally}
 use Rattle.split_tree.specs.Journal.{Setting, nodes, lines_of, count_of, choices_of, splits_of, counted, rounds, splits}
 use Rattle.split_tree.specs.Paths.{branch_to, subject}
-use Rattle.split_tree.specs.Facts.{claimed_by, is_stop}
+use Rattle.split_tree.specs.Facts.{chosen, claimed_by, is_stop}
 use Rattle.split_tree.specs.Ending.{end_by, first_end, or_else}
 
 -- the entries of a journal, the newest first
@@ -131,3 +132,52 @@ tally_by ev t = record {
 
 abbrev pub tally : List Entry → Tally
 tally past = record { counted = counted past; rounds = rounds past; splits = splits past; end = first_end past }
+
+-- ---- the sizes of clauses
+
+abbrev pub weights : List Line → List ℕ
+weights = map (λ l. clause_symbols l.stated.clause)
+
+-- each of these lines states a clause of at most 4,096 symbols
+abbrev pub AreSmall : List Line → Type 0
+AreSmall lines = (k : ℕ) (l : Line) → slice_get lines k ≡ Some l → clause_symbols l.stated.clause ≤ 4096
+
+-- ---- clauses that were activated or split
+
+-- the clause that the event activates or splits, with the node, where `at n` is what was chosen at n
+abbrev pub retired_by : Event → (ℕ → Option ℕ) → Option Retired
+retired_by (Activate node) at = option_map (λ i. record { clause = i; node = node }) (at node)
+retired_by (Split node lines put_off) at = Some (record { clause = subject lines; node = node })
+retired_by _ at = None
+
+abbrev pub pushed : {A : Type 0} → List A → Option A → List A
+pushed xs None = xs
+pushed xs (Some x) = xs ++ x ∷ []
+
+unfoldable pub retired : List Entry → List Retired
+retired [] = []
+retired (e ∷ past) = pushed (retired past) (retired_by e.event (chosen past))
+
+-- ---- for each clause number the node where the clause was first activated or split
+
+abbrev pub first_node : ℕ → List Retired → Option ℕ
+first_node i [] = None
+first_node i (r ∷ rs) = if r.clause == i then Some r.node else first_node i rs
+
+-- for the first n numbers
+abbrev pub firsts_upto : ℕ → List Retired → List (Option ℕ)
+firsts_upto zero rs = []
+firsts_upto (suc n) rs = firsts_upto n rs ++ first_node (suc n) rs ∷ []
+
+abbrev pub or_first : ℕ → Option ℕ → Option ℕ
+or_first node (Some first) = Some first
+or_first node None = Some node
+
+abbrev pub noted : Option Retired → List (Option ℕ) → List (Option ℕ)
+noted None xs = xs
+noted (Some r) xs = changed_at (r.clause - 1) (or_first r.node) xs
+
+-- the clause has one of so many numbers
+abbrev pub IsNumbered : Option Retired → ℕ → Type 0
+IsNumbered None n = Unit {0}
+IsNumbered (Some r) n = (1 ≤ r.clause) × (r.clause ≤ n)

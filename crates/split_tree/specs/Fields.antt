@@ -6,7 +6,7 @@ use Rattle.split_tree.specs.Facts.{waiting}
 use Rattle.split_tree.specs.Ending.{has_empty}
 use Rattle.split_tree.specs.Legal.{IsLegalJournal}
 use Rattle.split_tree.specs.declared.table.Table.TheInside.{Inside}
-use Rattle.split_tree.specs.Caches.{past_of, branches, homes, spots, empties, states, seats, tally}
+use Rattle.split_tree.specs.Caches.{past_of, branches, homes, spots, empties, weights, AreSmall, retired, firsts_upto, states, seats, tally}
 
 abbrev pub setting_of : Inside → Setting
 setting_of t = record { input = t.input; limits = t.limits; workers = t.workers }
@@ -14,11 +14,15 @@ setting_of t = record { input = t.input; limits = t.limits; workers = t.workers 
 pub record IsTable (t : Inside) : Type 0 where
   pub legal : IsLegalJournal (setting_of t) (past_of t.journal.items)
   pub opening_is : t.opening ≡ input_lines 1 t.input
+  pub small_input : AreSmall (input_lines 1 t.input)
   pub refuted_is : t.refuted ≡ has_empty t.input
   pub branches_are : t.branches.items ≡ branches (past_of t.journal.items)
   pub homes_are : t.homes.items ≡ homes (setting_of t) (past_of t.journal.items)
   pub spots_are : t.spots.items ≡ spots (past_of t.journal.items)
   pub empties_are : t.empties.items ≡ empties 1 (ledger (setting_of t) (past_of t.journal.items))
+  pub weights_are : t.weights.items ≡ weights (ledger (setting_of t) (past_of t.journal.items))
+  pub retired_are : t.retired.items ≡ retired (past_of t.journal.items)
+  pub firsts_are : t.firsts.items ≡ firsts_upto (steps (setting_of t) (past_of t.journal.items)) (retired (past_of t.journal.items))
   pub states_are : t.states.items ≡ states (past_of t.journal.items)
   pub seats_are : t.seats.items ≡ seats t.workers (past_of t.journal.items)
   pub leaves_are : t.leaves.items ≡ leaves (past_of t.journal.items)
@@ -35,3 +39,6 @@ pub record IsTable (t : Inside) : Type 0 where
   pub homes_room : vec_len t.homes + t.spare_steps ≤ vec_capacity t.homes
   pub spots_room : vec_len t.spots + t.spare_steps ≤ vec_capacity t.spots
   pub empties_room : vec_len t.empties + t.spare_steps ≤ vec_capacity t.empties
+  pub weights_room : vec_len t.weights + t.spare_steps ≤ vec_capacity t.weights
+  pub firsts_room : vec_len t.firsts + t.spare_steps ≤ vec_capacity t.firsts
+  pub retired_room : vec_len t.retired + t.spare_events ≤ vec_capacity t.retired

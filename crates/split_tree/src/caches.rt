@@ -5,19 +5,27 @@ ghost use Rattle.split_tree.specs.Journal.{lines_of, count_of, nodes_of, choices
 ghost use Rattle.proof_steps.specs.Spots.{changed_at};
 ghost use Rattle.split_tree.specs.Paths.{branch_to, replaced, leaves_by};
 ghost use Rattle.split_tree.specs.Ending.{or_else};
-ghost use Rattle.split_tree.specs.Caches.{branches_by, homes_by, spots_upto, empties, HasLines, HasFewChoices, IsNodeOf, state_by, with_children, states_by, seat_by, tally_by};
+ghost use Rattle.split_tree.specs.Caches.{branches_by, homes_by, spots_upto, empties, HasLines, HasFewChoices, IsNodeOf, state_by, with_children, states_by, seat_by, tally_by, weights, AreSmall, pushed, or_first, noted, IsNumbered};
 
 use crate::branch::Branch;
 use crate::event::{End, Event, count_of, subject};
 use dep_sets::Assumption;
 use proof_steps::Line;
-use spl_terms::Clause;
+use spl_terms::{Clause, symbols_of};
 
 /// Where a step stands: the place of its event in the journal, and its own in the event, both from 0.
 #[derive(Clone, Copy, Debug)]
 pub struct Spot {
     pub event: usize,
     pub place: usize,
+}
+
+/// A clause that was activated or split at a node.
+#[derive(Clone, Copy, Debug)]
+pub struct Retired {
+    /// The clause's number, from 1.
+    pub clause: u32,
+    pub node: u32,
 }
 
 /// What is known of a node.
@@ -328,5 +336,63 @@ pub fn note_leaves(leaves: &mut Vec<u32>, event: &Event, count: u32)
 {
     if let Event::Split { node, .. } = event {
         replace_leaf(leaves, *node, count);
+    }
+}
+
+/// Adds how many symbols the clause of each line has.
+pub fn add_weights(list: &mut Vec<u64>, lines: &[Line])
+    requires room { vec_len list.old + length lines.now ≤ vec_capacity list.old }
+    requires small { AreSmall lines.now }
+    ensures items { list.new.items ≡ list.old.items ++ weights lines.now }
+    ensures capacity { vec_capacity list.new ≡ vec_capacity list.old }
+{
+    for k in 0..lines.len() {
+        list.push_reserved(symbols_of(&lines[k].stated.clause));
+    }
+}
+
+/// Adds the clause that was activated or split, if any.
+pub fn add_retired(list: &mut Vec<Retired>, retired: Option<Retired>)
+    requires { vec_len list.old + length (pushed [] retired) ≤ vec_capacity list.old }
+    ensures items { list.new.items ≡ pushed list.old.items retired }
+    ensures len { vec_len list.new ≡ vec_len list.old + length (pushed [] retired) }
+    ensures capacity { vec_capacity list.new ≡ vec_capacity list.old }
+{
+    if let Some(retired) = retired {
+        list.push_reserved(retired);
+    }
+}
+
+fn or_first(node: u32, first: Option<u32>) -> Option<u32>
+    ensures { result ≡ or_first node first }
+{
+    match first {
+        Some(first) => Some(first),
+        None => Some(node),
+    }
+}
+
+/// Notes where the clause was first activated or split.
+fn note_first(firsts: &mut Vec<Option<u32>>, clause: u32, node: u32)
+    requires some { 1 ≤ clause }
+    requires there { clause ≤ vec_len firsts.old }
+    ensures items { firsts.new.items ≡ changed_at (clause - 1) (or_first node) firsts.old.items }
+    ensures len { vec_len firsts.new ≡ vec_len firsts.old }
+    ensures capacity { vec_capacity firsts.new ≡ vec_capacity firsts.old }
+{
+    let place = clause as usize - 1;
+    let first = or_first(node, firsts[place]);
+    firsts[place] = first;
+}
+
+/// Notes where the clause that was activated or split, if any, first was.
+pub fn note_firsts(firsts: &mut Vec<Option<u32>>, retired: Option<Retired>)
+    requires { IsNumbered retired (vec_len firsts.old) }
+    ensures items { firsts.new.items ≡ noted retired firsts.old.items }
+    ensures len { vec_len firsts.new ≡ vec_len firsts.old }
+    ensures capacity { vec_capacity firsts.new ≡ vec_capacity firsts.old }
+{
+    if let Some(Retired { clause, node }) = retired {
+        note_first(firsts, clause, node);
     }
 }

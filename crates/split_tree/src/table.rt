@@ -1,19 +1,19 @@
 //! The table: a legal journal, and what is computed from it.
 mod reading;
 
-ghost use Rattle.std.specs.Prelude.{◌≡◌, ◌-◌, ◌<◌, ◌≤◌, ◌^◌, ◌&&◌, not, if◌then◌else◌, IfOk, OnOk, OnErr, [], ◌∷◌, length, replicate, Some};
-ghost use Rattle.spl_terms.specs.Clauses.{is_empty};
-ghost use Rattle.split_tree.specs.Journal.{input_line, input_lines, lines_of};
-ghost use Rattle.split_tree.specs.Facts.{cost_of};
+ghost use Rattle.std.specs.Prelude.{◌≡◌, ◌-◌, ◌<◌, ◌≤◌, ◌^◌, ◌&&◌, not, if◌then◌else◌, IfOk, OnOk, OnErr, [], ◌∷◌, length, replicate, None, Some};
+ghost use Rattle.spl_terms.specs.Clauses.{is_empty, clause_symbols};
+ghost use Rattle.split_tree.specs.Journal.{input_line, input_lines, lines_of, nodes};
+ghost use Rattle.split_tree.specs.Facts.{cost_of, chosen};
 ghost use Rattle.split_tree.specs.Ending.{has_empty};
-ghost use Rattle.split_tree.specs.Caches.{empties, new_state, seats};
+ghost use Rattle.split_tree.specs.Caches.{empties, weights, AreSmall, retired_by, IsNodeOf, new_state, seats};
 ghost use Rattle.split_tree.specs.Legal.{IsLegal, IsLegalJournal};
 
 use crate::branch::Branch;
-use crate::caches::{NodeState, Seat, Spot, Tally};
-use crate::caches::{add_branches, add_copies, add_empties, add_homes, add_spots};
-use crate::caches::{note_leaves, note_node, note_seat};
-use crate::event::{End, Entry, Event, Limits};
+use crate::caches::{NodeState, Retired, Seat, Spot, Tally};
+use crate::caches::{add_branches, add_copies, add_empties, add_homes, add_retired, add_spots};
+use crate::caches::{add_weights, note_firsts, note_leaves, note_node, note_seat};
+use crate::event::{Entry, Event, Limits, subject};
 use dep_sets::Deps;
 use proof_steps::{Line, Rule, Statement, Step};
 use spl_terms::{Clause, Items};
@@ -46,6 +46,12 @@ pub struct Table {
     spots: Vec<Spot>,
     /// The numbers of the empty clauses.
     empties: Vec<u32>,
+    /// For each clause number, from 1, how many symbols the clause has.
+    weights: Vec<u64>,
+    /// The clauses that were activated or split, with the nodes.
+    retired: Vec<Retired>,
+    /// For each clause number, from 1, the node where the clause was first activated or split.
+    firsts: Vec<Option<u32>>,
     /// For each worker, from 1, what is known of it.
     seats: Vec<Seat>,
     tally: Tally,
@@ -74,7 +80,8 @@ impl Model for Table {
 // ---- the input
 
 fn input_line(alloc: Global, number: u32, clause: &Clause) -> Result<Line, AllocError>
-    ensures { IfOk result (λ line. line ≡ input_line number clause.now) }
+    ensures is { IfOk result (λ line. line ≡ input_line number clause.now) }
+    ensures small { IfOk result (λ line. clause_symbols line.stated.clause ≤ 4096) }
 {
     match clause.numbered(alloc) {
         Ok(clause) => Ok(Line {
@@ -93,7 +100,8 @@ fn input_line(alloc: Global, number: u32, clause: &Clause) -> Result<Line, Alloc
 
 fn input_lines(alloc: Global, input: &[Clause]) -> Result<Items<Line>, AllocError>
     requires { length input.now < 2 ^ 32 }
-    ensures { IfOk result (λ lines. lines ≡ input_lines 1 input.now) }
+    ensures is { IfOk result (λ lines. lines ≡ input_lines 1 input.now) }
+    ensures small { IfOk result AreSmall }
 {
     let mut lines = Items::with_room(alloc, input.len())?;
     for k in 0..input.len() {
@@ -175,6 +183,23 @@ fn new_empties(alloc: Global, lines: &[Line]) -> Result<Vec<u32>, AllocError>
     Ok(numbers)
 }
 
+fn new_weights(alloc: Global, lines: &[Line]) -> Result<Vec<u64>, AllocError>
+    requires { AreSmall lines.now }
+    ensures items { IfOk result (λ made. made.items ≡ weights lines.now) }
+{
+    let mut made = Vec::with_capacity(alloc, lines.len())?;
+    add_weights(&mut made, lines);
+    Ok(made)
+}
+
+fn new_firsts(alloc: Global, count: usize) -> Result<Vec<Option<u32>>, AllocError>
+    ensures items { IfOk result (λ made. made.items ≡ replicate count None) }
+{
+    let mut firsts = Vec::with_capacity(alloc, count)?;
+    add_copies(&mut firsts, None, count);
+    Ok(firsts)
+}
+
 impl Table {
     /// A table with the empty journal, for 1 to 8 workers, over at most 65,536 input clauses. The ledger has their
     /// input steps, and there is room for one Stop of each worker.
@@ -197,7 +222,9 @@ impl Table {
         limits.fit();
         let opening = input_lines(alloc, input)?;
         let empties = new_empties(alloc, opening.as_slice())?;
+        let weights = new_weights(alloc, opening.as_slice())?;
         let homes = new_homes(alloc, input.len())?;
+        let firsts = new_firsts(alloc, input.len())?;
         let journal = Vec::with_capacity(alloc, workers as usize)?;
         let branches = vec![in alloc; None]?;
         let states = vec![in alloc; new_state()]?;
@@ -216,6 +243,9 @@ impl Table {
             homes,
             spots: Vec::new(alloc),
             empties,
+            weights,
+            retired: Vec::new(alloc),
+            firsts,
             seats,
             tally: Tally {
                 counted: 0,
@@ -254,6 +284,9 @@ impl Table {
         self.homes.reserve(steps)?;
         self.spots.reserve(steps)?;
         self.empties.reserve(steps)?;
+        self.weights.reserve(steps)?;
+        self.firsts.reserve(steps)?;
+        self.retired.reserve(events)?;
         self.spare_events = events;
         self.spare_steps = steps;
         Ok(())
@@ -274,9 +307,14 @@ impl Table {
         let first = self.homes.len() as u32 + 1;
         let lines = event.lines().len();
         let cost = self.cost(by, &event);
+        let retired = self.retires(&event);
         add_homes(&mut self.homes, &event, nodes);
         add_spots(&mut self.spots, self.journal.len(), lines);
         add_empties(&mut self.empties, event.lines(), first);
+        add_weights(&mut self.weights, event.lines());
+        note_firsts(&mut self.firsts, retired);
+        add_copies(&mut self.firsts, None, lines);
+        add_retired(&mut self.retired, retired);
         add_branches(&mut self.branches, &event);
         note_node(&mut self.states, &event);
         note_leaves(&mut self.leaves, &event, nodes);
@@ -295,6 +333,24 @@ impl Table {
     {
         let stopped = self.seats[by as usize - 1].stopped;
         room_of(event.is_stop(), stopped)
+    }
+
+    /// The clause that the event activates or splits, with the node.
+    fn retires(&self, event: &Event) -> Option<Retired>
+        requires { IsNodeOf event.now (nodes self.now.past) }
+        ensures { result ≡ retired_by event.now (chosen self.now.past) }
+    {
+        match event {
+            Event::Activate { node } => match self.chosen(*node) {
+                Some(clause) => Some(Retired { clause, node: *node }),
+                None => None,
+            },
+            Event::Split { node, steps, .. } => Some(Retired {
+                clause: subject(steps.as_slice()),
+                node: *node,
+            }),
+            _ => None,
+        }
     }
 
     /// The law of the table: its journal is legal. It does nothing when it runs.

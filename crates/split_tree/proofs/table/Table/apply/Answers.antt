@@ -1,17 +1,19 @@
-use Rattle.std.proofs.Common.{◌≡◌, ◌∙◌, ℕ, ap, sym, length, ◌++◌, ◌∷◌, ◌+◌, arith, length-append}
+use Rattle.std.proofs.Common.{◌≡◌, ◌∙◌, ℕ, ap, sym, subst, length, replicate, Option, None, [], ◌++◌, ◌∷◌, ◌+◌, arith, length-append}
+use Rattle.std.proofs.lemmas.List.{length-replicate}
 use Rattle.split_tree.specs.declared.event.Entry.{Entry}
 use Rattle.split_tree.specs.Journal.{nodes, steps, ledger, lines_of}
 use Rattle.split_tree.specs.Paths.{leaves, leaves_by}
-use Rattle.split_tree.specs.Facts.{waiting}
+use Rattle.split_tree.specs.Facts.{waiting, chosen}
 use Rattle.split_tree.specs.Legal.{IsLegalJournal}
 use Rattle.split_tree.specs.Fields.{setting_of}
-use Rattle.split_tree.specs.Caches.{past_of, branches_by, homes, homes_by, HasFewChoices, IsNodeOf, spots, spots_upto, empties, states, states_by, seats, tally, tally_by}
-use Rattle.split_tree.proofs.Lists.{length-spots_upto, length-empties}
+use Rattle.split_tree.specs.Caches.{past_of, branches_by, homes, homes_by, HasFewChoices, IsNodeOf, spots, spots_upto, empties, states, states_by, seats, tally, tally_by, weights, AreSmall, retired, retired_by, pushed, noted, firsts_upto}
+use Rattle.split_tree.proofs.Lists.{length-spots_upto, length-empties, weights-append, length-weights}
 use Rattle.split_tree.proofs.Places.{HasLines-legal, node_there, steps_more}
 use Rattle.split_tree.proofs.Bounds.{rounds_legal, rounds_bound, splits_legal, splits_bound, counted_legal, counted_bound}
 use Rattle.split_tree.proofs.States.{few_choices, length-states_by}
+use Rattle.split_tree.proofs.Picks.{retired_clause, retired_numbered, firsts_after, small_lines, retired_cost, retired-push}
 use Rattle.split_tree.proofs.Past.{past_of-push, length-past_of, branches-push, homes-push, spots-push, states-push, seats-push, empties-push, length-branches_by, length-homes_by, splits_nodes, nodes_cost, waiting_more}
-use Rattle.split_tree.proofs.Lens.{branches_len, homes_len, states_len, seats_len}
+use Rattle.split_tree.proofs.Lens.{firsts_len, branches_len, homes_len, states_len, seats_len}
 use Rattle.split_tree.proofs.table.Table.apply.Goals as goal
 
 pub overflow_cast-nodes : goal.overflow_cast-nodes
@@ -36,6 +38,34 @@ pub add_empties-requires-clause-few : goal.add_empties-requires-clause-few
 add_empties-requires-clause-few c =
     let fits = rw (← c.self.view_is) at c.requires.steps_fit in
     omega (arith, c.len.ensures, homes_len c.self.inside c.self.invariant, c.self.invariant.few_steps, ap length c.lines.ensures)
+
+pub retires-retired-requires : goal.retires-retired-requires
+retires-retired-requires c =
+    let t = c.self.inside in
+    let legal = rw (← c.self.view_is) at c.requires.legal in
+    rw (← c.self.view_is) (node_there (setting_of t) (past_of t.journal.items) c.self.invariant.legal c.args.by c.args.event legal.asked)
+
+pub add_weights-requires-clause-small : goal.add_weights-requires-clause-small
+add_weights-requires-clause-small c =
+    let t = c.self.inside in
+    let legal = rw (← c.self.view_is) at c.requires.legal in
+    subst AreSmall (sym c.lines-2.ensures) (small_lines (setting_of t) (past_of t.journal.items) c.args.by c.args.event legal.asked)
+
+pub note_firsts-requires : goal.note_firsts-requires
+note_firsts-requires c =
+    let t = c.self.inside in
+    let p = past_of t.journal.items in
+    let legal = rw (← c.self.view_is) at c.requires.legal in
+    let is = rw (← c.self.view_is) at c.retires-retired.ensures in
+    rw (is, firsts_len t c.self.invariant) (retired_clause (setting_of t) p c.self.invariant.legal c.args.by c.args.event legal.asked)
+
+pub add_retired-requires : goal.add_retired-requires
+add_retired-requires c =
+    let t = c.self.inside in
+    let p = past_of t.journal.items in
+    let fits = rw (← c.self.view_is) at c.requires.event_fits in
+    let is = rw (← c.self.view_is) at c.retires-retired.ensures in
+    rw is (omega (arith, fits, c.self.invariant.retired_room, retired_cost p c.args.by c.args.event (chosen p)))
 
 pub note_node-requires-clause-there : goal.note_node-requires-clause-there
 note_node-requires-clause-there c =
@@ -110,10 +140,24 @@ invariant_of-self c =
     let lines_are = c.lines-lines.ensures in
     let count : c.len-nodes.result ≡ nodes p = omega (arith, c.len-nodes.ensures, branches_len t i) in
     let first : c.len.result + 1 ≡ 1 + steps s p = omega (arith, c.len.ensures, homes_len t i) in
+    let retires = rw (← c.self.view_is) at c.retires-retired.ensures in
     let at : c.len-2.result ≡ length p = omega (arith, length-past_of t.journal.items, c.len-2.ensures, t.journal.ok.0) in
     record {
       legal = rw is_past after;
       opening_is = i.opening_is;
+      small_input = i.small_input;
+      weights_are = c.add_weights.ensures.items ∙ (ap (λ xs. xs ++ weights c.lines-2.result.now) i.weights_are ∙ (ap (λ ls. weights (ledger s p) ++ weights ls) c.lines-2.ensures ∙ (sym (weights-append (ledger s p) (lines_of ev)) ∙ ap (λ q. weights (ledger s q)) (sym is_past))));
+      retired_are = c.add_retired.ensures.items ∙ (ap (λ xs. pushed xs c.retires-retired.result) i.retired_are ∙ (ap (pushed (retired p)) retires ∙ (sym (retired-push e p) ∙ ap retired (sym is_past))));
+      firsts_are =
+          c.add_copies.ensures.items
+          ∙ (ap (λ xs. xs ++ replicate {A = Option ℕ} (length c.lines-lines.result.now) None) (c.note_firsts.ensures.items ∙ (ap (noted c.retires-retired.result) i.firsts_are ∙ ap (λ o. noted o (firsts_upto (steps s p) (retired p))) retires))
+          ∙ (ap (λ m. noted (retired_by ev (chosen p)) (firsts_upto (steps s p) (retired p)) ++ replicate {A = Option ℕ} m None) (ap length lines_are)
+          ∙ (firsts_after (steps s p) (length (lines_of ev)) (retired p) (retired_by ev (chosen p)) (retired_numbered s p i.legal) (retired_clause s p i.legal c.args.by ev legal.asked)
+          ∙ (ap (λ n. firsts_upto n (pushed (retired p) (retired_by ev (chosen p)))) (sym (steps_more s p e))
+          ∙ (ap (firsts_upto (steps s (e ∷ p))) (sym (retired-push e p)) ∙ ap (λ q. firsts_upto (steps s q) (retired q)) (sym is_past))))));
+      weights_room = omega (arith, c.add_weights.new.list.ok.0, ap length c.add_weights.ensures.items, length-append t.weights.items (weights c.lines-2.result.now), length-weights c.lines-2.result.now, t.weights.ok.0, i.weights_room, c.add_weights.ensures.capacity, ap length lines_are, ap length c.lines-2.ensures);
+      firsts_room = omega (arith, c.add_copies.new.homes.ok.0, ap length c.add_copies.ensures.items, length-append c.note_firsts.new.firsts.items (replicate {A = Option ℕ} (length c.lines-lines.result.now) None), length-replicate {A = Option ℕ} (length c.lines-lines.result.now) None, c.note_firsts.new.firsts.ok.0, c.note_firsts.ensures.len, c.note_firsts.ensures.capacity, t.firsts.ok.0, i.firsts_room, c.add_copies.ensures.capacity, ap length lines_are);
+      retired_room = omega (arith, c.add_retired.ensures.len, ap (λ o. length (pushed [] o)) retires, retired_cost p c.args.by ev (chosen p), cost_is, i.retired_room, c.add_retired.ensures.capacity);
       refuted_is = i.refuted_is;
       branches_are = rw (is_past, branches-push, c.add_branches.ensures.items, i.branches_are);
       homes_are = rw (is_past, homes-push, c.add_homes.ensures.items, i.homes_are) (ap (λ n. homes s p ++ homes_by ev n) count);

@@ -11,11 +11,15 @@ invariant_of-self-2 c =
     record {
       legal = rw c.reserve.ensures.items i.legal;
       opening_is = i.opening_is;
+      small_input = i.small_input;
       refuted_is = i.refuted_is;
       branches_are = rw (c.reserve.ensures.items, c.reserve-2.ensures.items) i.branches_are;
       homes_are = rw (c.reserve.ensures.items, c.reserve-5.ensures.items) i.homes_are;
       spots_are = rw (c.reserve.ensures.items, c.reserve-6.ensures.items) i.spots_are;
       empties_are = rw (c.reserve.ensures.items, c.reserve-7.ensures.items) i.empties_are;
+      weights_are = rw (c.reserve.ensures.items, c.reserve-8.ensures.items) i.weights_are;
+      retired_are = rw (c.reserve.ensures.items, c.reserve-10.ensures.items) i.retired_are;
+      firsts_are = rw (c.reserve.ensures.items, c.reserve-9.ensures.items) i.firsts_are;
       states_are = rw (c.reserve.ensures.items, c.reserve-3.ensures.items) i.states_are;
       seats_are = rw c.reserve.ensures.items i.seats_are;
       leaves_are = rw (c.reserve.ensures.items, c.reserve-4.ensures.items) i.leaves_are;
@@ -32,4 +36,7 @@ invariant_of-self-2 c =
       homes_room = omega (arith, c.reserve-5.ensures.len, c.in_ok-reserve-5.ensures.ok);
       spots_room = omega (arith, c.reserve-6.ensures.len, c.in_ok-reserve-6.ensures.ok);
       empties_room = omega (arith, c.reserve-7.ensures.len, c.in_ok-reserve-7.ensures.ok);
+      weights_room = omega (arith, c.reserve-8.ensures.len, c.in_ok-reserve-8.ensures.ok);
+      firsts_room = omega (arith, c.reserve-9.ensures.len, c.in_ok-reserve-9.ensures.ok);
+      retired_room = omega (arith, c.reserve-10.ensures.len, c.in_ok-reserve-10.ensures.ok);
     }
