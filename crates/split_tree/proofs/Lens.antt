@@ -1,7 +1,10 @@
 -- How long the lists are that a table keeps, and what a read of them tells.
-use Rattle.std.proofs.Common.{◌≡◌, ℕ, ◌-◌, ◌<◌, ◌≤◌, ◌∙◌, Option, Some, ap, sym, length, reverse, refl, arith, vec_len, get_or}
+use Rattle.std.proofs.Common.{◌≡◌, ℕ, suc, ◌-◌, ◌<◌, ◌≤◌, ◌∙◌, Option, Some, ap, sym, length, reverse, refl, arith, vec_len, get_or}
 use Rattle.std.specs.List.{slice_get}
 use Rattle.std.proofs.lemmas.Option.{slice_get_read, slice_get_within, get_or_from_slice_get}
+use Rattle.spl_terms.specs.Clauses.{clause_symbols}
+use Rattle.proof_steps.specs.declared.step.Line.{Line}
+use Rattle.proof_steps.specs.Steps.{numbered}
 use Rattle.split_tree.specs.declared.event.Entry.{Entry}
 use Rattle.split_tree.specs.declared.branch.Branch.{Branch}
 use Rattle.split_tree.specs.declared.caches.Spot.{Spot}
@@ -9,13 +12,13 @@ use Rattle.split_tree.specs.Paths.{on_path, branch}
 use Rattle.split_tree.specs.Facts.{listed}
 use Rattle.split_tree.proofs.Branches.{branch_at}
 use Rattle.split_tree.proofs.Homes.{housed, Spotted, spotted}
-use Rattle.split_tree.specs.Journal.{Setting, nodes, steps, input_lines}
+use Rattle.split_tree.specs.Journal.{Setting, ledger, nodes, steps, input_lines}
 use Rattle.split_tree.specs.declared.table.Table.TheInside.{Inside}
 use Rattle.split_tree.specs.declared.caches.Seat.{Seat}
 use Rattle.split_tree.specs.declared.caches.NodeState.{NodeState}
 use Rattle.split_tree.specs.Fields.{setting_of, IsTable}
-use Rattle.split_tree.specs.Caches.{past_of, at_home, retired, firsts_upto}
-use Rattle.split_tree.proofs.Lists.{length-input_lines, length-firsts_upto}
+use Rattle.split_tree.specs.Caches.{past_of, at_home, retired, firsts_upto, first_node}
+use Rattle.split_tree.proofs.Lists.{length-input_lines, length-firsts_upto, firsts_at, length-weights, weights_at, numbered_get}
 use Rattle.split_tree.proofs.Past.{length-branches, length-homes, reverse-past_of}
 use Rattle.split_tree.proofs.States.{length-states, length-seats, seat_at, seat_of, state_at, state_of}
 
@@ -81,3 +84,25 @@ pub spot_within : (t : Inside) → (k : ℕ) (p : Spot) → Spotted (setting_of 
 spot_within t k p r =
     let b = slice_get_within (reverse (past_of t.journal.items)) p.event r.entry r.is in
     omega (arith, t.journal.ok.0, ap length (reverse-past_of t.journal.items))
+
+-- what is read of where the clause was first activated or split
+pub read_first : (t : Inside) → IsTable t → (i : ℕ) (o : Option ℕ) → 1 ≤ i → i ≤ steps (setting_of t) (past_of t.journal.items) → o ≡ get_or t.firsts.items (i - 1) o → first_node i (retired (past_of t.journal.items)) ≡ o
+read_first t ok i o some there read =
+    let p = past_of t.journal.items in
+    let n = steps (setting_of t) p in
+    let got = slice_get_read t.firsts.items (length t.firsts.items) (i - 1) o refl (omega (arith, t.firsts.ok.0, firsts_len t ok)) read in
+    let at = firsts_at n (i - 1) (retired p) (omega arith) in
+    let z : suc (i - 1) ≡ i = omega arith in
+    let same : Some (first_node (suc (i - 1)) (retired p)) ≡ Some o = sym at ∙ (ap (λ xs. slice_get xs (i - 1)) (sym ok.firsts_are) ∙ got) in
+    let q : first_node (suc (i - 1)) (retired p) ≡ o = cc in
+    ap (λ j. first_node j (retired p)) (sym z) ∙ q
+
+-- the size that is read
+pub read_weight : (t : Inside) → IsTable t → (i w : ℕ) (l : Line) → 1 ≤ i → i ≤ steps (setting_of t) (past_of t.journal.items) → numbered (ledger (setting_of t) (past_of t.journal.items)) i ≡ Some l → w ≡ get_or t.weights.items (i - 1) w → w ≡ clause_symbols l.stated.clause
+read_weight t ok i w l some there found read =
+    let p = past_of t.journal.items in
+    let ls = ledger (setting_of t) p in
+    let got = slice_get_read t.weights.items (length t.weights.items) (i - 1) w refl (omega (arith, ap length ok.weights_are, length-weights ls)) read in
+    let is = weights_at (i - 1) ls l (sym (numbered_get ls i some) ∙ found) in
+    let same : Some w ≡ Some (clause_symbols l.stated.clause) = sym got ∙ (ap (λ xs. slice_get xs (i - 1)) ok.weights_are ∙ is) in
+    cc

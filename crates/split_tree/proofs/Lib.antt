@@ -7,5 +7,6 @@ pub mod Past
 pub mod Branches
 pub mod Homes
 pub mod Picks
+pub mod Retired
 pub mod Leaves
 pub mod Lens

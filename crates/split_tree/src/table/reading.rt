@@ -1,9 +1,12 @@
 //! What the table says of its journal. Nothing here takes memory.
-ghost use Rattle.std.specs.Prelude.{◌≡◌, ℕ, ◌<◌, ◌≤◌, IfSome, IfNone, MatchBool, MatchOption, length, option_map, reverse, slice_get, Some};
+ghost use Rattle.std.specs.Prelude.{◌≡◌, ℕ, ◌+◌, ◌<◌, ◌≤◌, ◌||◌, if◌then◌else◌, MatchBool, MatchOption, length, option_map, reverse, slice_get, Some};
+ghost use Rattle.spl_truth.specs.Picking.{better};
+ghost use Rattle.proof_steps.specs.declared.step.Line.{Line};
 ghost use Rattle.proof_steps.specs.Steps.{numbered};
 ghost use Rattle.split_tree.specs.Journal.{ledger, nodes, steps, counted, rounds, splits};
 ghost use Rattle.split_tree.specs.Paths.{on_path, branch, is_leaf, leaves};
-ghost use Rattle.split_tree.specs.Facts.{listed, kept, chosen, claimed, IsDead, IsLive, Holds};
+ghost use Rattle.split_tree.specs.Facts.{listed, kept, worked, split, chosen, claimed, IsDead, IsLive, Holds};
+ghost use Rattle.split_tree.specs.Picking.{is_passive, choices, weighed, pick_at};
 ghost use Rattle.split_tree.specs.Ending.{reason};
 ghost use Rattle.split_tree.specs.Legal.{IsClaimable, IsNextClaim};
 
@@ -13,6 +16,7 @@ use crate::event::{End, Event, Limits};
 use dep_sets::Assumption;
 use proof_steps::Line;
 use spl_terms::Clause;
+use spl_truth::{Candidate, better, is_fifth};
 
 // ---- the journal
 
@@ -311,5 +315,104 @@ impl Table {
             }
         }
         None
+    }
+}
+
+// ---- the pick
+
+impl Table {
+    /// Whether the clause was activated or split at a node of the path, by a look at all that were.
+    fn was_retired(&self, node: u32, clause: u32) -> bool
+        requires { node < nodes self.now.past }
+        ensures { result ≡ (worked self.now.past node clause || split self.now.past node clause) }
+    {
+        for retired in &self.retired {
+            if retired.clause == clause && self.on_path(node, retired.node) {
+                return true;
+            }
+        }
+        false
+    }
+
+    /// Whether the clause was activated or split at a node of the path.
+    fn is_retired(&self, node: u32, clause: u32) -> bool
+        requires node { node < nodes self.now.past }
+        requires some { 1 ≤ clause }
+        requires there { clause ≤ steps self.now.setting self.now.past }
+        ensures { result ≡ (worked self.now.past node clause || split self.now.past node clause) }
+    {
+        match self.firsts[clause as usize - 1] {
+            None => false,
+            Some(first) => {
+                if self.on_path(node, first) {
+                    return true;
+                }
+                self.was_retired(node, clause)
+            }
+        }
+    }
+
+    /// Whether the clause is passive at the node.
+    fn is_passive(&self, node: u32, clause: u32) -> bool
+        requires node { node < nodes self.now.past }
+        requires some { 1 ≤ clause }
+        requires there { clause ≤ steps self.now.setting self.now.past }
+        ensures { result ≡ is_passive self.now.setting self.now.past node clause }
+    {
+        self.kept(node, clause) && !self.is_retired(node, clause)
+    }
+
+    /// How many clauses were chosen at nodes of the path.
+    fn choices(&self, node: u32) -> usize
+        requires { node < nodes self.now.past }
+        ensures { result ≡ choices self.now.past node }
+    {
+        self.states[node as usize].choices
+    }
+
+    /// The clause with its size, as the pick rule sees it.
+    fn weighed(&self, clause: u32) -> Candidate
+        requires some { 1 ≤ clause }
+        requires there { clause ≤ steps self.now.setting self.now.past }
+        ensures { (l : Line) → numbered (ledger self.now.setting self.now.past) clause ≡ Some l → result ≡ weighed clause l }
+    {
+        Candidate {
+            number: clause,
+            symbols: self.weights[clause as usize - 1],
+        }
+    }
+
+    /// The better one of the best so far and the clause, if it is passive at the node.
+    fn picked(&self, by_age: bool, best: Option<Candidate>, node: u32, clause: u32) -> Option<Candidate>
+        requires node { node < nodes self.now.past }
+        requires some { 1 ≤ clause }
+        requires there { clause ≤ steps self.now.setting self.now.past }
+        ensures { (l : Line) → numbered (ledger self.now.setting self.now.past) clause ≡ Some l
+            → result ≡ (if is_passive self.now.setting self.now.past node clause then better by_age best (weighed clause l) else best) }
+    {
+        if self.is_passive(node, clause) {
+            better(by_age, best, self.weighed(clause))
+        } else {
+            best
+        }
+    }
+
+    /// The clause that is to be chosen next at the node; none where nothing is passive there.
+    ///
+    /// It goes over the numbers of all clauses, and for a clause that was activated or split in another case alone over
+    /// all that were.
+    pub fn pick(&self, node: u32) -> Option<u32>
+        requires { node < nodes self.now.past }
+        ensures { result ≡ pick_at self.now.setting self.now.past node }
+    {
+        let by_age = is_fifth(self.choices(node));
+        let mut best = None;
+        for k in 0..self.steps() {
+            best = self.picked(by_age, best, node, k + 1);
+        }
+        match best {
+            Some(best) => Some(best.number),
+            None => None,
+        }
     }
 }
