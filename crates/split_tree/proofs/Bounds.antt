@@ -1,9 +1,9 @@
 -- What the limits bound.
-use Rattle.std.proofs.Common.{◌≡◌, ℕ, ◌+◌, ◌<◌, ◌≤◌, Bool, true, false, cond, List, [], ◌∷◌, length, refl, arith}
+use Rattle.std.proofs.Common.{ℕ, ◌+◌, ◌≤◌, Bool, true, false, cond, List, [], ◌∷◌, arith}
 use Rattle.split_tree.specs.declared.event.Entry.{Entry}
 use Rattle.split_tree.specs.declared.event.Event.{Event}
 use Rattle.split_tree.specs.declared.event.Event.TheVariants.{Choose, Publish, Split}
-use Rattle.split_tree.specs.Journal.{Setting, lines_of, nodes_of, nodes, choices_of, rounds, splits_of, splits, count_of, counted}
+use Rattle.split_tree.specs.Journal.{Setting, lines_of, nodes, choices_of, rounds, splits_of, splits, count_of, counted}
 use Rattle.split_tree.specs.Paths.{stem, on_path}
 use Rattle.split_tree.specs.Picking.{choices, choices_by}
 use Rattle.split_tree.specs.Legal.{IsAsked, IsLegalJournal}

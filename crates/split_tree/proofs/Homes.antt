@@ -16,8 +16,8 @@ use Rattle.split_tree.specs.Facts.{lists, listed}
 use Rattle.split_tree.specs.Legal.{IsAsked, IsLegalJournal}
 use Rattle.split_tree.specs.Caches.{homes, homes_by, at_home, spots, spots_upto}
 use Rattle.split_tree.proofs.Lists.{get_more, get_left, get_right, length-spots_upto, length-input_lines}
-use Rattle.split_tree.proofs.Places.{steps_more, lists_new, stem_there, publish_there, one_line, two_lines, in_input}
-use Rattle.split_tree.proofs.Climb.{or_absorb, on_path-self, on_path_within, on_path_grow}
+use Rattle.split_tree.proofs.Places.{steps_more, lists_new, stem_there, publish_there, one_line, in_input}
+use Rattle.split_tree.proofs.Climb.{or_absorb, on_path_within, on_path_grow}
 use Rattle.split_tree.proofs.Past.{length-homes}
 
 -- a listed number is one of the ledger

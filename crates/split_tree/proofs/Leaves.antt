@@ -1,16 +1,15 @@
 -- The list of leaves has each leaf, and nodes alone.
-use Rattle.std.proofs.Common.{◌≡◌, ℕ, zero, suc, ◌+◌, ◌-◌, ◌<◌, ◌≤◌, inl, inr, Bool, true, false, cond, not, ◌&&◌, eqb, List, [], ◌∷◌, length, Option, Some, None, refl, sym, ◌∙◌, ap, arith, eq-eqb}
-use Rattle.std.proofs.lemmas.Bool.{eqb-true, ne_eqb, cases_Bool, cases_lt, cond-true, cond-false, and_parts}
+use Rattle.std.proofs.Common.{◌≡◌, ℕ, zero, suc, ◌+◌, ◌<◌, ◌≤◌, inl, inr, Bool, true, false, cond, not, eqb, List, [], ◌∷◌, Option, Some, refl, sym, ◌∙◌, ap, arith, eq-eqb}
+use Rattle.std.proofs.lemmas.Bool.{eqb-true, cases_Bool, cases_lt, cond-false, and_parts}
 use Rattle.std.specs.List.{slice_get}
 use Rattle.split_tree.specs.declared.event.Entry.{Entry}
 use Rattle.split_tree.specs.declared.event.Event.{Event}
-use Rattle.split_tree.specs.declared.event.Event.TheVariants.{Claim, Split}
+use Rattle.split_tree.specs.declared.event.Event.TheVariants.{Split}
 use Rattle.split_tree.specs.Journal.{Setting, nodes, nodes_of}
 use Rattle.split_tree.specs.Paths.{is_leaf, splits_node, leaves, leaves_by, replaced}
 use Rattle.split_tree.specs.Facts.{claimed, claimed_by}
 use Rattle.split_tree.specs.Legal.{IsAsked, IsLegalJournal}
 use Rattle.split_tree.proofs.Climb.{not_true}
-use Rattle.split_tree.proofs.States.{fresh_leaf}
 
 -- ---- nodes alone
 

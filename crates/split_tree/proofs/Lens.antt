@@ -12,12 +12,12 @@ use Rattle.split_tree.specs.Paths.{on_path, branch}
 use Rattle.split_tree.specs.Facts.{listed}
 use Rattle.split_tree.proofs.Branches.{branch_at}
 use Rattle.split_tree.proofs.Homes.{housed, Spotted, spotted}
-use Rattle.split_tree.specs.Journal.{Setting, ledger, nodes, steps, input_lines}
+use Rattle.split_tree.specs.Journal.{ledger, nodes, steps}
 use Rattle.split_tree.specs.declared.table.Table.TheInside.{Inside}
 use Rattle.split_tree.specs.declared.caches.Seat.{Seat}
 use Rattle.split_tree.specs.declared.caches.NodeState.{NodeState}
 use Rattle.split_tree.specs.Fields.{setting_of, IsTable}
-use Rattle.split_tree.specs.Caches.{past_of, at_home, retired, firsts_upto, first_node}
+use Rattle.split_tree.specs.Caches.{past_of, at_home, retired, first_node}
 use Rattle.split_tree.proofs.Lists.{length-input_lines, length-firsts_upto, firsts_at, length-weights, weights_at, numbered_get}
 use Rattle.split_tree.proofs.Past.{length-branches, length-homes, reverse-past_of}
 use Rattle.split_tree.proofs.States.{length-states, length-seats, seat_at, seat_of, state_at, state_of}

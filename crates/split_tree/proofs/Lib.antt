@@ -8,5 +8,6 @@ pub mod Branches
 pub mod Homes
 pub mod Picks
 pub mod Retired
+pub mod Legals
 pub mod Leaves
 pub mod Lens

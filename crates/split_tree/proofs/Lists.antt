@@ -1,5 +1,5 @@
 -- Lists with more at their end, or with an item changed.
-use Rattle.std.proofs.Common.{◌≡◌, ℕ, zero, suc, ◌+◌, ◌-◌, ◌<◌, ◌≤◌, Bool, true, false, cond, eqb, eq-eqb, List, [], ◌∷◌, ◌++◌, length, map, take, get_or, replicate, inl, inr, ◌⊎◌, Option, Some, None, refl, sym, ◌∙◌, ap, arith, length-append, append_assoc, add-one}
+use Rattle.std.proofs.Common.{◌≡◌, ℕ, zero, suc, ◌+◌, ◌-◌, ◌<◌, ◌≤◌, Bool, true, false, cond, eqb, eq-eqb, List, [], ◌∷◌, ◌++◌, length, take, get_or, replicate, inl, inr, ◌⊎◌, Option, Some, None, refl, sym, ◌∙◌, ap, arith, length-append}
 use Rattle.std.specs.Prelude.{slice_set, insert}
 use Rattle.std.specs.List.{slice_get}
 use Rattle.std.specs.Option.{option_map}
@@ -10,7 +10,6 @@ use Rattle.spl_terms.specs.Clauses.{is_empty, clause_symbols}
 use Rattle.proof_steps.specs.declared.step.Line.{Line}
 use Rattle.proof_steps.specs.Spots.{changed_at}
 use Rattle.proof_steps.specs.Steps.{numbered}
-use Rattle.split_tree.specs.declared.caches.Spot.{Spot}
 use Rattle.split_tree.specs.declared.caches.Retired.{Retired}
 use Rattle.split_tree.specs.Journal.{input_line, input_lines}
 use Rattle.split_tree.specs.Paths.{replaced}
@@ -229,14 +228,14 @@ firsts-note n rs r some =
     let xs = firsts_upto n rs in
     same_lists (changed_at (r.clause - 1) f xs) (firsts_upto n (rs ++ r ∷ [])) (omega (arith, length-changed_at (r.clause - 1) f xs, length-firsts_upto n rs, length-firsts_upto n (rs ++ r ∷ [])))
     (λ k low.
-      let below : k < n = omega (arith, length-changed_at (r.clause - 1) f xs, length-firsts_upto n rs) in
-      elim (cases_eq k (r.clause - 1)) [
-        | inl same ↦
-            let q : r.clause ≡ suc k = omega arith in
-            ap (λ j. slice_get (changed_at j f xs) k) (sym same) ∙ (changed_at-here k f xs ∙ (ap (option_map f) (firsts_at n k rs below) ∙ (ap Some (sym (first_same (suc k) rs r q)) ∙ sym (firsts_at n k (rs ++ r ∷ []) below))))
-        | inr apart ↦
-            changed_at-elsewhere (r.clause - 1) k f xs apart ∙ (firsts_at n k rs below ∙ (ap Some (sym (first_other (suc k) rs r (λ e. apart (omega arith)))) ∙ sym (firsts_at n k (rs ++ r ∷ []) below)))
-      ])
+    let below : k < n = omega (arith, length-changed_at (r.clause - 1) f xs, length-firsts_upto n rs) in
+    elim (cases_eq k (r.clause - 1)) [
+      | inl same ↦
+          let q : r.clause ≡ suc k = omega arith in
+          ap (λ j. slice_get (changed_at j f xs) k) (sym same) ∙ (changed_at-here k f xs ∙ (ap (option_map f) (firsts_at n k rs below) ∙ (ap Some (sym (first_same (suc k) rs r q)) ∙ sym (firsts_at n k (rs ++ r ∷ []) below))))
+      | inr apart ↦
+          changed_at-elsewhere (r.clause - 1) k f xs apart ∙ (firsts_at n k rs below ∙ (ap Some (sym (first_other (suc k) rs r (λ e. apart (omega arith)))) ∙ sym (firsts_at n k (rs ++ r ∷ []) below)))
+    ])
   where
     cases_eq : (a b : ℕ) → (a ≡ b) ⊎ (a ≡ b → ⊥)
     cases_eq a b = elim (cases_Bool (eqb a b)) [ inl t ↦ inl (eqb-true a b t) | inr f ↦ inr (λ q. let t = eq-eqb a b q in cc) ]
@@ -257,13 +256,13 @@ firsts-more n m rs each =
     let long = length-replicate m (let o : Option ℕ = None in o) in
     same_lists (firsts_upto (n + m) rs) (xs ++ none) (omega (arith, length-append xs none, length-firsts_upto n rs, length-firsts_upto (n + m) rs))
     (λ k low.
-      let below : k < n + m = omega (arith, length-firsts_upto (n + m) rs) in
-      firsts_at (n + m) k rs below ∙ elim (cases_lt k n) [
-        | inl old ↦ sym (get_left xs none k (omega (arith, length-firsts_upto n rs)) ∙ firsts_at n k rs old)
-        | inr new ↦
-            let at : k ≡ length xs + (k - n) = omega (arith, length-firsts_upto n rs) in
-            ap Some (first_none n (suc k) rs each (omega arith)) ∙ sym (ap (slice_get (xs ++ none)) at ∙ (get_right xs none (k - n) ∙ get_copies m (k - n) None (omega arith)))
-      ])
+    let below : k < n + m = omega (arith, length-firsts_upto (n + m) rs) in
+    firsts_at (n + m) k rs below ∙ elim (cases_lt k n) [
+      | inl old ↦ sym (get_left xs none k (omega (arith, length-firsts_upto n rs)) ∙ firsts_at n k rs old)
+      | inr new ↦
+          let at : k ≡ length xs + (k - n) = omega (arith, length-firsts_upto n rs) in
+          ap Some (first_none n (suc k) rs each (omega arith)) ∙ sym (ap (slice_get (xs ++ none)) at ∙ (get_right xs none (k - n) ∙ get_copies m (k - n) None (omega arith)))
+    ])
 
 pub firsts_none : (n : ℕ) → firsts_upto n [] ≡ replicate n None
 firsts_none n = ap (λ j. firsts_upto j []) (let e : n ≡ 0 + n = omega arith in e) ∙ firsts-more 0 n [] (λ k r h. cc)

@@ -8,10 +8,10 @@ use Rattle.split_tree.specs.declared.event.Event.{Event}
 use Rattle.split_tree.specs.declared.event.Event.TheVariants.{Publish, Split}
 use Rattle.split_tree.specs.Journal.{Setting, lines_of, nodes_of, nodes, splits_of, steps, ledger}
 use Rattle.split_tree.specs.Facts.{has_stopped, is_stop, waiting, cost_of}
-use Rattle.split_tree.specs.Legal.{IsAsked, IsLegalJournal}
+use Rattle.split_tree.specs.Legal.{IsLegalJournal}
 use Rattle.split_tree.specs.Caches.{past_of, branches, branches_by, homes, homes_by, HasLines, spots, spots_upto, states, states_by, seats, seat_by, empties}
 use Rattle.proof_steps.specs.Spots.{changed_at}
-use Rattle.split_tree.proofs.Lists.{length-spots_upto, empties-append}
+use Rattle.split_tree.proofs.Lists.{empties-append}
 use Rattle.split_tree.proofs.Places.{steps_more, HasLines-legal}
 
 pub past_of-push : (xs : List Entry) (e : Entry) → past_of (xs ++ e ∷ []) ≡ e ∷ past_of xs

@@ -1,26 +1,24 @@
 -- What is picked is passive, so what is chosen is a clause of the ledger; where clauses were activated or split.
-use Rattle.std.specs.Prelude.{fold, map}
-use Rattle.std.proofs.Common.{◌≡◌, ℕ, zero, suc, ◌+◌, ◌-◌, ◌<◌, ◌≤◌, ◌⊎◌, inl, inr, Bool, true, false, cond, not, ◌&&◌, ◌||◌, eqb, ltb, List, [], ◌∷◌, ◌++◌, length, replicate, Option, Some, None, option_map, refl, sym, ◌∙◌, ap, arith, subst}
-use Rattle.std.proofs.lemmas.Bool.{and_parts, cases_Bool, eqb-true, cond-true, cond-false, cases_lt}
-use Rattle.std.proofs.lemmas.List.Folds.{list_any-append}
-use Rattle.std.specs.List.{slice_get, list_any}
+use Rattle.std.specs.Prelude.{fold}
+use Rattle.std.proofs.Common.{◌≡◌, ℕ, zero, suc, ◌+◌, ◌-◌, ◌≤◌, ◌⊎◌, inl, inr, Bool, true, false, cond, not, ◌&&◌, eqb, List, [], ◌∷◌, ◌++◌, length, replicate, Option, Some, None, option_map, refl, sym, ◌∙◌, ap, arith, subst}
+use Rattle.std.proofs.lemmas.Bool.{and_parts, cases_Bool, cond-true, cond-false, cases_lt}
+use Rattle.std.specs.List.{slice_get}
 use Rattle.spl_terms.specs.Clauses.{clause_symbols}
 use Rattle.spl_truth.specs.declared.picking.Candidate.{Candidate}
-use Rattle.spl_truth.specs.Picking.{better, preferred, is_fifth, is_older, is_lighter}
+use Rattle.spl_truth.specs.Picking.{better, is_fifth, is_older, is_lighter}
 use Rattle.proof_steps.specs.declared.step.Line.{Line}
 use Rattle.split_tree.specs.declared.event.Entry.{Entry}
 use Rattle.split_tree.specs.declared.event.Event.{Event}
 use Rattle.split_tree.specs.declared.event.Event.TheVariants.{Choose, Publish, Split, Activate}
 use Rattle.split_tree.specs.declared.caches.Retired.{Retired}
-use Rattle.split_tree.specs.Journal.{Setting, nodes, nodes_of, ledger, steps, lines_of}
-use Rattle.split_tree.specs.Paths.{stem, on_path, subject, first_number}
-use Rattle.split_tree.specs.Facts.{cost_of, listed, worked, split, activates, splits_clause, is_number, chosen, chosen_by}
+use Rattle.split_tree.specs.Journal.{Setting, ledger, steps, lines_of}
+use Rattle.split_tree.specs.Paths.{subject, first_number}
+use Rattle.split_tree.specs.Facts.{cost_of, listed, worked, split, chosen, chosen_by}
 use Rattle.split_tree.specs.Picking.{is_passive, passing, passive, pick_at, choices, weighed}
 use Rattle.split_tree.specs.Legal.{IsAsked, IsLegalJournal, IsSplittable, assume}
 use Rattle.split_tree.specs.Caches.{retired, retired_by, pushed, IsNumbered, AreSmall, noted, firsts_upto}
 use Rattle.split_tree.proofs.Lists.{AreNumbered, get_left, get_right, firsts-note, firsts-more}
-use Rattle.split_tree.proofs.Places.{steps_more, node_there, stem_there}
-use Rattle.split_tree.proofs.Climb.{on_path_grow}
+use Rattle.split_tree.proofs.Places.{steps_more}
 use Rattle.split_tree.proofs.Homes.{listed_within}
 
 -- ---- what is picked

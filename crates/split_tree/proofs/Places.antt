@@ -1,6 +1,6 @@
 -- Where listed numbers, claimed nodes and owners lie.
-use Rattle.std.proofs.Common.{◌≡◌, ℕ, zero, suc, ◌+◌, ◌-◌, ◌<◌, ◌≤◌, inl, inr, Bool, true, false, not, ◌&&◌, ◌||◌, eqb, ltb, leb, List, [], ◌∷◌, ◌++◌, length, map, cond, Option, Some, sym, ◌∙◌, ap, arith, length-append}
-use Rattle.std.proofs.lemmas.Bool.{or_cases, or_right, and_parts, leb-true, ltb-true, eqb-true, false≢true, cases_Bool, cond-true, cond-false}
+use Rattle.std.proofs.Common.{◌≡◌, ℕ, ◌+◌, ◌<◌, ◌≤◌, inl, inr, Bool, true, false, ◌&&◌, ◌||◌, eqb, ltb, leb, List, [], ◌∷◌, length, cond, Option, Some, sym, ◌∙◌, ap, arith, length-append}
+use Rattle.std.proofs.lemmas.Bool.{or_cases, and_parts, leb-true, ltb-true, eqb-true, false≢true, cases_Bool, cond-true, cond-false}
 use Rattle.std.proofs.lemmas.List.{length-map}
 use Rattle.std.proofs.lemmas.Bool.Decides.{nat_tests}
 use Rattle.dep_sets.specs.declared.deps.Assumption.{Assumption}
@@ -11,9 +11,9 @@ use Rattle.split_tree.specs.declared.event.Entry.{Entry}
 use Rattle.split_tree.specs.declared.event.Event.{Event}
 use Rattle.split_tree.specs.declared.event.Event.TheVariants.{Claim, Choose, Publish, Split, Activate}
 use Rattle.split_tree.specs.Journal.{Setting, lines_of, nodes_of, nodes, ledger, steps}
-use Rattle.split_tree.specs.Paths.{stem, on_path, owner, owner_by, subject}
-use Rattle.split_tree.specs.Facts.{lists, listed, claimed, claimed_by}
-use Rattle.split_tree.specs.Legal.{IsAsked, IsLegal, IsLegalJournal, IsPublishable, IsSplittable, IsLegalSplit}
+use Rattle.split_tree.specs.Paths.{stem, owner, owner_by, subject}
+use Rattle.split_tree.specs.Facts.{lists, claimed, claimed_by}
+use Rattle.split_tree.specs.Legal.{IsAsked, IsLegalJournal, IsPublishable, IsSplittable}
 use Rattle.split_tree.specs.Caches.{HasLines, IsNodeOf}
 
 -- the ledger grows by the event's steps

@@ -1,23 +1,21 @@
 -- The list of what was activated or split answers as the journal does; the pick as it goes on.
 use Rattle.std.specs.Prelude.{fold}
-use Rattle.std.proofs.Common.{◌≡◌, ℕ, zero, suc, ◌+◌, ◌-◌, ◌<◌, ◌≤◌, inl, inr, Bool, true, false, cond, not, ◌&&◌, ◌||◌, eqb, List, [], ◌∷◌, ◌++◌, length, take, Option, Some, None, option_map, refl, sym, ◌∙◌, ap, arith, eq-eqb}
-use Rattle.std.proofs.lemmas.Bool.{cases_Bool, eqb-true, cond-true, cond-false, cases_lt}
+use Rattle.std.proofs.Common.{◌≡◌, ℕ, zero, suc, ◌+◌, ◌<◌, ◌≤◌, inl, inr, Bool, true, false, cond, ◌&&◌, ◌||◌, eqb, List, [], ◌∷◌, take, Option, Some, None, option_map, refl, sym, ◌∙◌, ap, arith}
+use Rattle.std.proofs.lemmas.Bool.{cases_Bool, cond-true, cond-false}
 use Rattle.std.proofs.lemmas.List.Folds.{list_any-append}
-use Rattle.std.proofs.lemmas.List.Sums.{fold_push}
 use Rattle.std.specs.List.{slice_get, list_any}
 use Rattle.spl_truth.specs.declared.picking.Candidate.{Candidate}
 use Rattle.proof_steps.specs.declared.step.Line.{Line}
 use Rattle.split_tree.specs.declared.event.Entry.{Entry}
 use Rattle.split_tree.specs.declared.event.Event.{Event}
-use Rattle.split_tree.specs.declared.event.Event.TheVariants.{Choose, Split, Activate}
+use Rattle.split_tree.specs.declared.event.Event.TheVariants.{Split, Activate}
 use Rattle.split_tree.specs.declared.caches.Retired.{Retired}
 use Rattle.split_tree.specs.Journal.{Setting, nodes, nodes_of}
 use Rattle.split_tree.specs.Paths.{stem, on_path, subject}
 use Rattle.split_tree.specs.Facts.{worked, split, activates, splits_clause, is_number, chosen}
 use Rattle.split_tree.specs.Picking.{passing, weighed}
 use Rattle.split_tree.specs.Legal.{IsAsked, IsLegalJournal}
-use Rattle.split_tree.specs.Caches.{retired, retired_by, pushed, first_node, IsNodeOf}
-use Rattle.split_tree.proofs.Lists.{get_left, get_right}
+use Rattle.split_tree.specs.Caches.{retired, retired_by, pushed, first_node}
 use Rattle.split_tree.proofs.Places.{node_there, stem_there}
 use Rattle.split_tree.proofs.Climb.{on_path_grow}
 
@@ -133,8 +131,8 @@ retired_any s (e ∷ past) legal m i there =
     ∙ (ap (λ b. b || (activates e.event (chosen past) on i || splits_clause e.event on i)) more
     ∙ (ap (λ b. list_any (hits on i) rs || b) (new_hit e.event (chosen past) on i)
     ∙ sym (pushed_any p rs o
-      ∙ (ap (λ b. b || any_of p o) (hits_grow past e m i rs (retired_low s past legal.1))
-      ∙ ap (λ b. list_any (hits on i) rs || b) (hit_grow past e m i o (low_by s past legal.1 e.by e.event legal.0.asked))))))
+    ∙ (ap (λ b. b || any_of p o) (hits_grow past e m i rs (retired_low s past legal.1))
+    ∙ ap (λ b. list_any (hits on i) rs || b) (hit_grow past e m i o (low_by s past legal.1 e.by e.event legal.0.asked))))))
 
 -- ---- by the first node
 

@@ -1,6 +1,6 @@
 -- What is kept of each node and of each worker is what the journal says.
-use Rattle.std.proofs.Common.{◌≡◌, ℕ, zero, suc, ◌+◌, ◌-◌, ◌<◌, ◌≤◌, ◌^◌, inl, inr, Bool, true, false, cond, not, ◌&&◌, ◌||◌, eqb, leb, List, [], ◌∷◌, ◌++◌, length, replicate, Option, Some, None, refl, sym, ◌∙◌, ap, arith, eq-eqb, length-append, subst}
-use Rattle.std.proofs.lemmas.Bool.{eqb-true, ne_eqb, cases_Bool, cases_lt, cond-true, cond-false, and_from, false_from_ne_true, leb-true}
+use Rattle.std.proofs.Common.{◌≡◌, ℕ, zero, suc, ◌+◌, ◌-◌, ◌<◌, ◌≤◌, ◌^◌, inl, inr, Bool, true, false, cond, not, ◌&&◌, ◌||◌, eqb, leb, List, [], ◌∷◌, ◌++◌, length, replicate, Option, Some, None, refl, sym, ◌∙◌, ap, arith, eq-eqb, length-append}
+use Rattle.std.proofs.lemmas.Bool.{eqb-true, ne_eqb, cases_Bool, cases_lt, cond-true, cond-false, and_from, false_from_ne_true}
 use Rattle.std.proofs.lemmas.Bool.Decides.{nat_tests}
 use Rattle.std.proofs.lemmas.List.{length-replicate}
 use Rattle.std.proofs.lemmas.Option.{slice_get_within}
@@ -12,12 +12,12 @@ use Rattle.split_tree.specs.declared.event.Event.{Event}
 use Rattle.split_tree.specs.declared.event.Event.TheVariants.{Claim, Choose, Publish, Split, Activate, Saturated, Spent, Big, Full, Stop}
 use Rattle.split_tree.specs.declared.caches.NodeState.{NodeState}
 use Rattle.split_tree.specs.declared.caches.Seat.{Seat}
-use Rattle.split_tree.specs.Journal.{Setting, nodes, nodes_of, rounds}
+use Rattle.split_tree.specs.Journal.{Setting, nodes, nodes_of}
 use Rattle.split_tree.specs.Paths.{stem, on_path, is_leaf, splits_node}
 use Rattle.split_tree.specs.Facts.{chosen, chosen_by, claimed, claimed_by, has_stopped, is_stop}
-use Rattle.split_tree.specs.Picking.{choices, choices_by}
+use Rattle.split_tree.specs.Picking.{choices}
 use Rattle.split_tree.specs.Legal.{IsAsked, IsLegalJournal}
-use Rattle.split_tree.specs.Caches.{states, states_by, state_by, new_state, child_of, with_children, HasFewChoices, seats, seat_by}
+use Rattle.split_tree.specs.Caches.{states, states_by, state_by, new_state, child_of, HasFewChoices, seats, seat_by}
 use Rattle.split_tree.proofs.Lists.{get_left, get_right, length-changed_at, changed_at-here, changed_at-elsewhere}
 use Rattle.split_tree.proofs.Places.{claimed_within, node_there}
 use Rattle.split_tree.proofs.Climb.{on_path-self, stem_old, leaf_path}
@@ -83,14 +83,14 @@ state_old s past legal w (Choose node clause selected) m p low got =
           let q = eqb-true node m same in
           changed_one (states past) node m f (state_of past m) (sym q) got
           ∙ ap Some (same_state (is_leaf past m) (is_leaf past m) (Some clause) (cond (eqb node m) (Some clause) (chosen past m)) (choices past m + 1) (cond (on_path past m node) (choices past m + 1) (choices past m)) refl
-            (sym (cond-true (eqb node m) (Some clause) (chosen past m) same))
-            (sym (cond-true (on_path past m node) (choices past m + 1) (choices past m) (ap (on_path past m) q ∙ on_path-self past m))))
+          (sym (cond-true (eqb node m) (Some clause) (chosen past m) same))
+          (sym (cond-true (on_path past m node) (choices past m + 1) (choices past m) (ap (on_path past m) q ∙ on_path-self past m))))
       | inr other ↦
           let off : on_path past m node ≡ false = false_from_ne_true (on_path past m node) (λ t. let q = leaf_path s past legal m node low p.holds.leaf t in let bad = eq-eqb node m q in cc) in
           changed_none (states past) node m f (state_of past m) (λ q. let bad = eq-eqb node m (sym q) in cc) got
           ∙ ap Some (same_state (is_leaf past m) (is_leaf past m) (chosen past m) (cond (eqb node m) (Some clause) (chosen past m)) (choices past m) (cond (on_path past m node) (choices past m + 1) (choices past m)) refl
-            (sym (cond-false (eqb node m) (Some clause) (chosen past m) other))
-            (sym (cond-false (on_path past m node) (choices past m + 1) (choices past m) off)))
+          (sym (cond-false (eqb node m) (Some clause) (chosen past m) other))
+          (sym (cond-false (on_path past m node) (choices past m + 1) (choices past m) off)))
     ]
 state_old s past legal w (Activate node) m p low got =
     let f = state_by (Activate node) in
@@ -98,11 +98,11 @@ state_old s past legal w (Activate node) m p low got =
       | inl same ↦
           changed_one (states past) node m f (state_of past m) (sym (eqb-true node m same)) got
           ∙ ap Some (same_state (is_leaf past m) (is_leaf past m) None (cond (eqb node m) None (chosen past m)) (choices past m) (choices past m) refl
-            (sym (cond-true (eqb node m) None (chosen past m) same)) refl)
+          (sym (cond-true (eqb node m) None (chosen past m) same)) refl)
       | inr other ↦
           changed_none (states past) node m f (state_of past m) (λ q. let bad = eq-eqb node m (sym q) in cc) got
           ∙ ap Some (same_state (is_leaf past m) (is_leaf past m) (chosen past m) (cond (eqb node m) None (chosen past m)) (choices past m) (choices past m) refl
-            (sym (cond-false (eqb node m) None (chosen past m) other)) refl)
+          (sym (cond-false (eqb node m) None (chosen past m) other)) refl)
     ]
 state_old s past legal w (Split node lines put_off) m p low got =
     let f = state_by (Split node lines put_off) in
@@ -114,11 +114,11 @@ state_old s past legal w (Split node lines put_off) m p low got =
       | inl same ↦
           at ∙ (changed_one (states past) node m f (state_of past m) (sym (eqb-true node m same)) got
           ∙ ap Some (same_state false (not (eqb node m) && is_leaf past m) (chosen past m) (chosen past m) (choices past m) (choices past (stem (Split node lines put_off) (nodes past) m))
-            (sym (ap (λ b. not b && is_leaf past m) same)) refl stays))
+          (sym (ap (λ b. not b && is_leaf past m) same)) refl stays))
       | inr other ↦
           at ∙ (changed_none (states past) node m f (state_of past m) (λ q. let bad = eq-eqb node m (sym q) in cc) got
           ∙ ap Some (same_state (is_leaf past m) (not (eqb node m) && is_leaf past m) (chosen past m) (chosen past m) (choices past m) (choices past (stem (Split node lines put_off) (nodes past) m))
-            (sym (ap (λ b. not b && is_leaf past m) other)) refl stays))
+          (sym (ap (λ b. not b && is_leaf past m) other)) refl stays))
     ]
 state_old s past legal w (Claim node) m p low got = got
 state_old s past legal w (Publish node chain put_off) m p low got = got
@@ -152,7 +152,7 @@ state_new s past legal w (Split node lines put_off) m p high there each =
     let is : child ≡ new_state (choices past node) = ap child_of got in
     ap (slice_get (xs ++ child ∷ child ∷ [])) at ∙ (get_right xs (child ∷ child ∷ []) (m - nodes past) ∙ (get_two child (m - nodes past) (omega arith) ∙ (ap Some is
     ∙ ap Some (same_state true (not (eqb node m) && is_leaf past m) None (chosen past m) (choices past node) (choices past (stem ev (nodes past) m))
-      (sym (fresh_leaf_now s past legal w ev m p high)) (sym (fresh_chosen s past legal m high)) (ap (choices past) (sym (stem_high node (nodes past) m high)))))))
+    (sym (fresh_leaf_now s past legal w ev m p high)) (sym (fresh_chosen s past legal m high)) (ap (choices past) (sym (stem_high node (nodes past) m high)))))))
   where
     fresh_leaf_now : (s : Setting) (past : List Entry) → IsLegalJournal s past → (w : ℕ) (ev : Event) (m : ℕ) → IsAsked s past w ev → nodes past ≤ m → (not (splits_node ev m) && is_leaf past m) ≡ true
     fresh_leaf_now s past legal w ev m p high = and_from (not (splits_node ev m)) (is_leaf past m) (ap not (fresh_split s past legal w ev m p high)) (fresh_leaf s past legal m high)
@@ -211,12 +211,12 @@ seat_at s (e ∷ past) legal w some there =
           let q : e.by - 1 ≡ w - 1 = (let r = eqb-true e.by w own in omega arith) in
           ap (λ k. slice_get (changed_at k f xs) (w - 1)) q ∙ (changed_at-here (w - 1) f xs ∙ (ap (option_map f) more
           ∙ ap Some (same_seat (claimed_by e.event (claimed past w)) (cond (eqb e.by w) (claimed_by e.event (claimed past w)) (claimed past w)) (is_stop e.event || has_stopped past w) (((eqb e.by w) && is_stop e.event) || has_stopped past w)
-            (sym (cond-true (eqb e.by w) (claimed_by e.event (claimed past w)) (claimed past w) own))
-            (sym (ap (λ b. (b && is_stop e.event) || has_stopped past w) own)))))
+          (sym (cond-true (eqb e.by w) (claimed_by e.event (claimed past w)) (claimed past w) own))
+          (sym (ap (λ b. (b && is_stop e.event) || has_stopped past w) own)))))
       | inr other ↦
           let apart : w - 1 ≡ e.by - 1 → ⊥ = λ q. (let r : e.by ≡ w = omega arith in let bad = eq-eqb e.by w r in cc) in
           changed_at-elsewhere (e.by - 1) (w - 1) f xs apart ∙ (more
           ∙ ap Some (same_seat (claimed past w) (cond (eqb e.by w) (claimed_by e.event (claimed past w)) (claimed past w)) (has_stopped past w) (((eqb e.by w) && is_stop e.event) || has_stopped past w)
-            (sym (cond-false (eqb e.by w) (claimed_by e.event (claimed past w)) (claimed past w) other))
-            (sym (ap (λ b. (b && is_stop e.event) || has_stopped past w) other))))
+          (sym (cond-false (eqb e.by w) (claimed_by e.event (claimed past w)) (claimed past w) other))
+          (sym (ap (λ b. (b && is_stop e.event) || has_stopped past w) other))))
     ]

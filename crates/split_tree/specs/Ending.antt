@@ -1,5 +1,5 @@
 -- Which events end the journal, and why.
-use Rattle.std.specs.Prelude.{◌≡◌, ℕ, Bool, true, false, ◌&&◌, List, [], ◌∷◌, map, Option, Some, None, if◌then◌else◌}
+use Rattle.std.specs.Prelude.{Bool, true, false, ◌&&◌, List, [], ◌∷◌, Option, Some, None, if◌then◌else◌}
 use Rattle.std.specs.List.{list_any}
 use Rattle.spl_terms.specs.declared.clause.Clause.{Clause}
 use Rattle.spl_terms.specs.Clauses.{is_empty}

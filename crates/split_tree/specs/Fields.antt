@@ -1,5 +1,5 @@
 -- What is true of the fields of a table.
-use Rattle.std.specs.Prelude.{◌≡◌, ◌+◌, ◌*◌, ◌<◌, ◌≤◌, ◌^◌, length, vec_len, vec_capacity}
+use Rattle.std.specs.Prelude.{◌≡◌, ◌+◌, ◌*◌, ◌<◌, ◌≤◌, ◌^◌, vec_len, vec_capacity}
 use Rattle.split_tree.specs.Journal.{Setting, IsSmall, ledger, input_lines, nodes, steps}
 use Rattle.split_tree.specs.Paths.{leaves}
 use Rattle.split_tree.specs.Facts.{waiting}

@@ -9,7 +9,7 @@ use Rattle.proof_steps.specs.Steps.{states}
 use Rattle.split_tree.specs.declared.event.Limits.{Limits}
 use Rattle.split_tree.specs.declared.event.Entry.{Entry}
 use Rattle.split_tree.specs.declared.event.Event.{Event}
-use Rattle.split_tree.specs.declared.event.Event.TheVariants.{Choose, Publish, Split, Stop}
+use Rattle.split_tree.specs.declared.event.Event.TheVariants.{Choose, Publish, Split}
 
 -- what a table is made with
 pub record Setting : Type 0 where

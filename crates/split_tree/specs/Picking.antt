@@ -1,5 +1,5 @@
 -- Which clause is chosen next at a node.
-use Rattle.std.specs.Prelude.{ℕ, ◌+◌, Bool, not, ◌&&◌, ◌==◌, if◌then◌else◌, List, [], ◌∷◌, Option}
+use Rattle.std.specs.Prelude.{ℕ, ◌+◌, Bool, not, ◌&&◌, if◌then◌else◌, List, [], ◌∷◌, Option}
 use Rattle.spl_terms.specs.Clauses.{clause_symbols}
 use Rattle.spl_truth.specs.declared.picking.Candidate.{Candidate}
 use Rattle.spl_truth.specs.Picking.{pick}

@@ -10,9 +10,10 @@ ghost use Rattle.split_tree.specs.Caches.{empties, weights, AreSmall, retired_by
 ghost use Rattle.split_tree.specs.Legal.{IsLegal, IsLegalJournal};
 
 use crate::branch::Branch;
-use crate::caches::{NodeState, Retired, Seat, Spot, Tally};
-use crate::caches::{add_branches, add_copies, add_empties, add_homes, add_retired, add_spots};
-use crate::caches::{add_weights, note_firsts, note_leaves, note_node, note_seat};
+use crate::caches::{
+    NodeState, Retired, Seat, Spot, Tally, add_branches, add_copies, add_empties, add_homes,
+    add_retired, add_spots, add_weights, note_firsts, note_leaves, note_node, note_seat,
+};
 use crate::event::{Entry, Event, Limits, subject};
 use dep_sets::Deps;
 use proof_steps::{Line, Rule, Statement, Step};
@@ -342,7 +343,10 @@ impl Table {
     {
         match event {
             Event::Activate { node } => match self.chosen(*node) {
-                Some(clause) => Some(Retired { clause, node: *node }),
+                Some(clause) => Some(Retired {
+                    clause,
+                    node: *node,
+                }),
                 None => None,
             },
             Event::Split { node, steps, .. } => Some(Retired {

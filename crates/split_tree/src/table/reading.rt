@@ -383,7 +383,13 @@ impl Table {
     }
 
     /// The better one of the best so far and the clause, if it is passive at the node.
-    fn picked(&self, by_age: bool, best: Option<Candidate>, node: u32, clause: u32) -> Option<Candidate>
+    fn picked(
+        &self,
+        by_age: bool,
+        best: Option<Candidate>,
+        node: u32,
+        clause: u32,
+    ) -> Option<Candidate>
         requires node { node < nodes self.now.past }
         requires some { 1 ≤ clause }
         requires there { clause ≤ steps self.now.setting self.now.past }

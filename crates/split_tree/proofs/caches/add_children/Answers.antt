@@ -1,6 +1,5 @@
-use Rattle.std.proofs.Common.{length, refl, arith, sym, append_assoc, ap, ◌++◌, ◌∷◌, [], ◌∙◌}
+use Rattle.std.proofs.Common.{length, refl, arith, append_assoc}
 use Rattle.std.proofs.lemmas.Option.{slice_get_read}
-use Rattle.split_tree.specs.Caches.{child_of}
 use Rattle.split_tree.proofs.caches.add_children.Goals as goal
 
 pub returns-clause-items : goal.returns-clause-items

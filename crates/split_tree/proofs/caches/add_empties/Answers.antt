@@ -14,7 +14,7 @@ loop-k-preserved c =
     let got = slice_get_read lines (length lines) k line refl c.loop-k-test.true c.index-lines-k.is in
     let e : suc k ≡ k + 1 = omega arith in
     let more : empties c.args.first (take (k + 1) lines) ≡ empties c.args.first (take k lines) ++ empties (c.args.first + k) (line ∷ []) =
-        ap (λ j. empties c.args.first (take j lines)) (sym e) ∙ empties-more c.args.first k lines line got in
+    ap (λ j. empties c.args.first (take j lines)) (sym e) ∙ empties-more c.args.first k lines line got in
     record {
       items = c.add_empty.ensures.items ∙ (ap (λ ys. ys ++ empties (c.args.first + k) (line ∷ [])) i.items ∙ (append_assoc base (empties c.args.first (take k lines)) (empties (c.args.first + k) (line ∷ [])) ∙ ap (λ ys. base ++ ys) (sym more)));
       len = omega (arith, c.add_empty.ensures.len, i.len);

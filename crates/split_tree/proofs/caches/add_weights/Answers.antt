@@ -18,7 +18,7 @@ loop-k-preserved c =
     let w : c.symbols_of.result ≡ clause_symbols line.stated.clause = c.symbols_of.ensures ∙ (ap (λ x. min (clause_symbols x.stated.clause) 18446744073709551615) (sym c.index-lines-k.is) ∙ omega (arith, small)) in
     let e : suc k ≡ k + 1 = omega arith in
     let more : weights (take (k + 1) lines) ≡ weights (take k lines) ++ clause_symbols line.stated.clause ∷ [] =
-        ap (λ j. weights (take j lines)) (sym e) ∙ weights-more k lines line got in
+    ap (λ j. weights (take j lines)) (sym e) ∙ weights-more k lines line got in
     record {
       items = c.push_reserved.ensures.items ∙ (ap (λ ys. ys ++ c.symbols_of.result ∷ []) i.items ∙ (ap (λ x. (base ++ weights (take k lines)) ++ x ∷ []) w ∙ (append_assoc base (weights (take k lines)) (clause_symbols line.stated.clause ∷ []) ∙ ap (λ ys. base ++ ys) (sym more))));
       len = omega (arith, c.push_reserved.ensures.len, i.len);

@@ -1,4 +1,4 @@
-use Rattle.std.proofs.Common.{length, refl, arith, ◌∙◌, sym}
+use Rattle.std.proofs.Common.{length, refl, arith}
 use Rattle.std.proofs.lemmas.Option.{slice_get_read}
 use Rattle.split_tree.specs.Caches.{state_by}
 use Rattle.split_tree.proofs.Lists.{changed_at-set}

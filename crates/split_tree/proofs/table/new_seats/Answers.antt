@@ -1,4 +1,4 @@
-use Rattle.std.proofs.Common.{◌≡◌, ◌∙◌, ap, replicate, None, false, arith}
+use Rattle.std.proofs.Common.{◌∙◌, ap, replicate, None, false, arith}
 use Rattle.split_tree.specs.declared.caches.Seat.{Seat}
 use Rattle.split_tree.specs.Caches.{seats}
 use Rattle.split_tree.proofs.table.new_seats.Goals as goal

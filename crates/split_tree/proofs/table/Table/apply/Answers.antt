@@ -3,11 +3,11 @@ use Rattle.std.proofs.lemmas.List.{length-replicate}
 use Rattle.split_tree.specs.declared.event.Entry.{Entry}
 use Rattle.split_tree.specs.Journal.{nodes, steps, ledger, lines_of}
 use Rattle.split_tree.specs.Paths.{leaves, leaves_by}
-use Rattle.split_tree.specs.Facts.{waiting, chosen}
+use Rattle.split_tree.specs.Facts.{chosen}
 use Rattle.split_tree.specs.Legal.{IsLegalJournal}
 use Rattle.split_tree.specs.Fields.{setting_of}
-use Rattle.split_tree.specs.Caches.{past_of, branches_by, homes, homes_by, HasFewChoices, IsNodeOf, spots, spots_upto, empties, states, states_by, seats, tally, tally_by, weights, AreSmall, retired, retired_by, pushed, noted, firsts_upto}
-use Rattle.split_tree.proofs.Lists.{length-spots_upto, length-empties, weights-append, length-weights}
+use Rattle.split_tree.specs.Caches.{past_of, branches_by, homes, homes_by, spots, spots_upto, empties, tally, tally_by, weights, AreSmall, retired, retired_by, pushed, noted, firsts_upto}
+use Rattle.split_tree.proofs.Lists.{length-spots_upto, weights-append, length-weights}
 use Rattle.split_tree.proofs.Places.{HasLines-legal, node_there, steps_more}
 use Rattle.split_tree.proofs.Bounds.{rounds_legal, rounds_bound, splits_legal, splits_bound, counted_legal, counted_bound}
 use Rattle.split_tree.proofs.States.{few_choices, length-states_by}

@@ -1,4 +1,4 @@
-use Rattle.std.proofs.Common.{◌∙◌, ap, sym, arith}
+use Rattle.std.proofs.Common.{sym, arith}
 use Rattle.split_tree.proofs.Lens.{branches_len, read_branch}
 use Rattle.split_tree.proofs.table.Table.branch.Goals as goal
 

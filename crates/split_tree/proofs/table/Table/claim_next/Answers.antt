@@ -1,4 +1,4 @@
-use Rattle.std.proofs.Common.{◌∙◌, sym, length, arith}
+use Rattle.std.proofs.Common.{arith}
 use Rattle.std.proofs.lemmas.Option.{slice_get_within}
 use Rattle.split_tree.specs.Paths.{leaves}
 use Rattle.split_tree.proofs.Places.{claimed_within}

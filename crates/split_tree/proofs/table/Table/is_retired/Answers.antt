@@ -1,4 +1,4 @@
-use Rattle.std.proofs.Common.{◌∙◌, ap, sym, arith}
+use Rattle.std.proofs.Common.{◌∙◌, sym, arith}
 use Rattle.split_tree.specs.Paths.{on_path}
 use Rattle.split_tree.specs.Fields.{setting_of}
 use Rattle.split_tree.specs.Caches.{past_of, retired}

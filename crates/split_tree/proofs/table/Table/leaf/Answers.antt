@@ -1,5 +1,4 @@
-use Rattle.std.proofs.Common.{◌∙◌, ap, sym, arith}
-use Rattle.split_tree.specs.Caches.{past_of}
+use Rattle.std.proofs.Common.{ap, sym, arith}
 use Rattle.split_tree.proofs.Lens.{states_len, read_state}
 use Rattle.split_tree.proofs.table.Table.leaf.Goals as goal
 

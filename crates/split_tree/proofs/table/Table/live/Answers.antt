@@ -1,6 +1,6 @@
-use Rattle.std.proofs.Common.{◌≡◌, ◌+◌, ◌-◌, ◌<◌, ◌∙◌, ℕ, List, Some, true, false, ap, sym, get_or, length, refl, inl, inr, arith}
+use Rattle.std.proofs.Common.{◌≡◌, ◌+◌, ◌-◌, ◌<◌, ◌∙◌, ℕ, List, Some, ap, sym, get_or, length, inl, inr, arith}
 use Rattle.std.specs.List.{slice_get}
-use Rattle.std.proofs.lemmas.Bool.{cases_lt, false_from_ne_true}
+use Rattle.std.proofs.lemmas.Bool.{cases_lt}
 use Rattle.std.proofs.lemmas.Option.{slice_get_within}
 use Rattle.split_tree.specs.declared.event.Entry.{Entry}
 use Rattle.split_tree.specs.Journal.{Setting, ledger}
@@ -54,11 +54,11 @@ returns c =
     let s = setting_of t in
     let p = past_of t.journal.items in
     rw (← c.self.view_is) (λ dead.
-        let n = dead.0 in
-        let w = listed_within s p c.self.invariant.legal c.args.node n dead.1.lists in
-        let r = empty_found 1 (n - 1) (ledger s p) dead.1.line (sym (numbered_get (ledger s p) n w.0) ∙ dead.1.found) dead.1.empty in
-        let z : 1 + (n - 1) ≡ n = omega (arith, w.0) in
-        let got = ap (λ ys. slice_get ys r.0) i.items ∙ (r.1 ∙ ap Some z) in
-        let off = i.none r.0 n (omega (arith, slice_get_within c.deref-number-items.result.now r.0 n got, c.loop-number-test.false)) got in
-        let on = dead.1.lists in
-        cc)
+    let n = dead.0 in
+    let w = listed_within s p c.self.invariant.legal c.args.node n dead.1.lists in
+    let r = empty_found 1 (n - 1) (ledger s p) dead.1.line (sym (numbered_get (ledger s p) n w.0) ∙ dead.1.found) dead.1.empty in
+    let z : 1 + (n - 1) ≡ n = omega (arith, w.0) in
+    let got = ap (λ ys. slice_get ys r.0) i.items ∙ (r.1 ∙ ap Some z) in
+    let off = i.none r.0 n (omega (arith, slice_get_within c.deref-number-items.result.now r.0 n got, c.loop-number-test.false)) got in
+    let on = dead.1.lists in
+    cc)

@@ -1,4 +1,4 @@
-use Rattle.std.proofs.Common.{◌≡◌, ◌||◌, ◌∙◌, ℕ, Option, Some, None, false, true, ap, sym, eqb, eq-eqb, inl, inr, arith, zero, suc, ◌<◌}
+use Rattle.std.proofs.Common.{◌≡◌, ◌||◌, ◌∙◌, ℕ, Some, None, false, ap, sym, eqb, inl, inr, arith, ◌<◌}
 use Rattle.std.proofs.lemmas.Bool.{ne_eqb, cases_lt}
 use Rattle.split_tree.specs.declared.branch.Branch.{Branch}
 use Rattle.split_tree.specs.Journal.{nodes}
@@ -8,7 +8,7 @@ use Rattle.split_tree.specs.Caches.{past_of}
 use Rattle.split_tree.specs.declared.table.Table.TheInside.{Inside}
 use Rattle.split_tree.specs.Fields.{IsTable}
 use Rattle.split_tree.proofs.Climb.{on_path-self, on_path_root}
-use Rattle.split_tree.proofs.Branches.{branch_root, Climbs, climbs}
+use Rattle.split_tree.proofs.Branches.{branch_root, climbs}
 use Rattle.split_tree.proofs.Lens.{branches_len, read_branch}
 use Rattle.split_tree.proofs.table.Table.on_path.Goals as goal
 

@@ -1,7 +1,7 @@
-use Rattle.std.proofs.Common.{◌≡◌, ◌∙◌, ◌∷◌, [], ap, sym, subst, arith, length, Option, None, Some, ℕ, replicate}
+use Rattle.std.proofs.Common.{◌∙◌, ◌∷◌, [], ap, sym, subst, arith, length, Option, None, Some, ℕ, replicate}
 use Rattle.split_tree.specs.Journal.{input_lines}
 use Rattle.split_tree.specs.Ending.{has_empty}
-use Rattle.split_tree.specs.Caches.{branches, homes, spots, empties, weights, AreSmall, retired, firsts_upto, states, seats}
+use Rattle.split_tree.specs.Caches.{branches, homes, spots, empties, weights, AreSmall, retired, states}
 use Rattle.split_tree.proofs.Lists.{length-input_lines, firsts_none}
 use Rattle.split_tree.proofs.Past.{past_of-nil, waiting_start}
 use Rattle.split_tree.proofs.table.Table.start.Goals as goal
