@@ -8,6 +8,7 @@ pub mod Branches
 pub mod Homes
 pub mod Picks
 pub mod Retired
+pub mod Ledger
 pub mod Legals
 pub mod Leaves
 pub mod Lens

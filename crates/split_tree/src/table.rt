@@ -3,11 +3,12 @@ mod reading;
 
 ghost use Rattle.std.specs.Prelude.{◌≡◌, ◌-◌, ◌<◌, ◌≤◌, ◌^◌, ◌&&◌, not, if◌then◌else◌, IfOk, OnOk, OnErr, [], ◌∷◌, length, replicate, None, Some};
 ghost use Rattle.spl_terms.specs.Clauses.{is_empty, clause_symbols};
-ghost use Rattle.split_tree.specs.Journal.{input_line, input_lines, lines_of, nodes};
+ghost use Rattle.proof_steps.specs.Checked.{AreConclusions};
+ghost use Rattle.split_tree.specs.Journal.{input_line, input_lines, lines_of, ledger, nodes};
 ghost use Rattle.split_tree.specs.Facts.{cost_of, chosen};
-ghost use Rattle.split_tree.specs.Ending.{has_empty};
+ghost use Rattle.split_tree.specs.Ending.{has_empty, first_end, reason};
 ghost use Rattle.split_tree.specs.Caches.{empties, weights, AreSmall, retired_by, IsNodeOf, new_state, seats};
-ghost use Rattle.split_tree.specs.Legal.{IsLegal, IsLegalJournal};
+ghost use Rattle.split_tree.specs.Legal.{IsLegal, IsLegalJournal, IsSettled};
 
 use crate::branch::Branch;
 use crate::caches::{
@@ -363,4 +364,24 @@ impl Table {
     {
         let _ = &self.journal;
     }
+
+    /// The law of the ledger: each line states what its step concludes from the input and the lines before it, in at
+    /// most 4,096 symbols. It does nothing when it runs.
+    pub fn ledger_is_concluded(&self)
+        ensures { AreConclusions self.now.setting.input (ledger self.now.setting self.now.past) }
+    {
+        let _ = &self.journal;
+    }
+
+    /// The law of a table that has not ended: no event ends the journal. It does nothing when it runs.
+    pub fn has_not_ended(&self)
+        requires { reason self.now.setting self.now.past ≡ None }
+        ensures { first_end self.now.past ≡ None }
+    {}
+
+    /// The law of a table whose root is its one node: it is settled. It does nothing when it runs.
+    pub fn root_is_settled(&self)
+        requires { nodes self.now.past ≡ 1 }
+        ensures { IsSettled self.now.setting self.now.past }
+    {}
 }
