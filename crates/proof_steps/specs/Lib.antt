@@ -3,3 +3,4 @@ pub mod Parts
 pub mod Steps
 pub mod Parents
 pub mod Checked
+pub mod Covering

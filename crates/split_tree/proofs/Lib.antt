@@ -1,0 +1,14 @@
+pub mod Lists
+pub mod Places
+pub mod Climb
+pub mod Bounds
+pub mod States
+pub mod Past
+pub mod Branches
+pub mod Homes
+pub mod Picks
+pub mod Retired
+pub mod Ledger
+pub mod Legals
+pub mod Leaves
+pub mod Lens

@@ -1,0 +1,9 @@
+pub mod Journal
+pub mod Paths
+pub mod Facts
+pub mod Picking
+pub mod Ending
+pub mod Legal
+pub mod Caches
+pub mod State
+pub mod Fields
