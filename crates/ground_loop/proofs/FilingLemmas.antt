@@ -100,6 +100,7 @@ linked_more old new e l rule older items = record {
   where
     es : List Entry
     es = old.entries.items
+
     before : (x : ℕ) (f : Entry) → numbered (es ++ e ∷ []) x ≡ Some f → IsNewest (es ++ e ∷ []) f.key (x - 1) f.older
     before x f is = elim (numbered_snoc es e x f is) [
       | inl b ↦ newest_stays es e f.key (x - 1) f.older (omega (arith, b.0)) (l.older x f b.1)
@@ -233,6 +234,7 @@ none_stated lines filing c h none = go (is_stated lines c) refl
   where
     at_key : HasNoSubclause lines filing.entries.items (clause_key c) 0 c
     at_key = at_first (λ k. HasNoSubclause lines filing.entries.items k 0 c) c.succedent c.antecedent c.constraint none.empty none.succedent none.antecedent none.constraint
+
     contradiction : is_stated lines c ≡ true → ⊥
     contradiction e =
         let s = stated_place lines c e in
@@ -240,6 +242,7 @@ none_stated lines filing c h none = go (is_stated lines c) refl
         let no = at_key f.0 f.1 s.1 (numbered_within filing.entries.items f.0 f.1 f.2).0 f.2 (f.3 ∙ ap clause_key s.3) (ap (numbered lines) f.4 ∙ s.2) in
         let yes_it_is = equal_subclause s.1.stated.clause c s.3 in
         (let x : true ≡ false = sym yes_it_is ∙ no in cc)
+
     go : (t : Bool) → is_stated lines c ≡ t → is_stated lines c ≡ false
     go false e = e
     go true e = absurd (contradiction e)

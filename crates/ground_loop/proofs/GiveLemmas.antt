@@ -120,9 +120,11 @@ giving_ends input search literals before number partners k g h = given_covered s
   where
     here : is_in search.given number ≡ true
     here = ap (λ gs. is_in gs number) g.given ∙ member_last before number
+
     go : (x : ℕ) → is_in search.given x ≡ true → (b : Bool) → is_in partners x ≡ b → IsCoveredPair search.lines x number × IsCoveredPair search.lines number x
     go x e true f = let r = member_place partners x f in g.up_to r.0 x (omega (arith, h, slice_get_within partners r.0 x r.1)) r.1
     go x e false f = vain_pairs search.lines search.given literals number partners g.filed g.has x e f (g.going.run.numbers x e) (g.going.run.numbers number here)
+
     each : (x : ℕ) → is_in search.given x ≡ true → IsCoveredPair search.lines x number × IsCoveredPair search.lines number x
     each x e = go x e (is_in partners x) refl
 

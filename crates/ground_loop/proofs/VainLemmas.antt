@@ -94,15 +94,23 @@ module _ (lines : List Line) (given : List ℕ) (literals : Filing) (number : �
 
   pub vain_pairs : IsNumber lines x → IsNumber lines number → IsCoveredPair lines x number × IsCoveredPair lines number x
   vain_pairs hx hn = (
-    record { left = hx; right = hn; covers = λ i part j s e.
-      let w = places_of i part j (numbered (stated lines) x) (numbered (stated lines) number) s e in
-      let m = meet i part j w.p.clause w.q.clause (as_they_stand i part j w.p.clause w.q.clause w.may) in
-      absurd (in_vain Succedent part i j m.b m.a w.p w.q w.left w.right m.left m.right (negative_side part m.negative).1 (same_turned m.a m.b m.same)) },
-    record { left = hn; right = hx; covers = λ i part j s e.
-      let w = places_of i part j (numbered (stated lines) number) (numbered (stated lines) x) s e in
-      let m = meet i part j w.p.clause w.q.clause (as_they_stand i part j w.p.clause w.q.clause w.may) in
-      absurd (in_vain part Succedent j i m.a m.b w.q w.p w.right w.left m.right m.left (sym (negative_side part m.negative).0) m.same) },
-    )
+    record {
+      left = hx;
+      right = hn;
+      covers = λ i part j s e.
+          let w = places_of i part j (numbered (stated lines) x) (numbered (stated lines) number) s e in
+          let m = meet i part j w.p.clause w.q.clause (as_they_stand i part j w.p.clause w.q.clause w.may) in
+          absurd (in_vain Succedent part i j m.b m.a w.p w.q w.left w.right m.left m.right (negative_side part m.negative).1 (same_turned m.a m.b m.same));
+    },
+    record {
+      left = hn;
+      right = hx;
+      covers = λ i part j s e.
+          let w = places_of i part j (numbered (stated lines) number) (numbered (stated lines) x) s e in
+          let m = meet i part j w.p.clause w.q.clause (as_they_stand i part j w.p.clause w.q.clause w.may) in
+          absurd (in_vain part Succedent j i m.a m.b w.q w.p w.right w.left m.right m.left (sym (negative_side part m.negative).0) m.same);
+    },
+  )
 
 -- ---- the literals of the given lines
 
@@ -136,5 +144,6 @@ no_literals lines given literals none empty linked = record {
     nothing : (n : ℕ) (e : Entry) → numbered [] n ≡ Some e → ⊥
     nothing zero e h = cc
     nothing (suc k) e h = cc
+
     not_filed : {k : ℕ} (v : ℕ) → IsFiled literals.entries.items k v → ⊥
     not_filed v f = nothing f.0 f.1 (subst (λ es. numbered es f.0 ≡ Some f.1) empty f.2)

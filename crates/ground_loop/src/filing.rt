@@ -190,13 +190,31 @@ fn has_subclause(lines: &[Line], filing: &Filing, clause: &Clause) -> bool
     if is_subsumed_at(lines, filing, 0, clause) {
         return true;
     }
-    if is_subsumed_by(lines, filing, AFTER_ARROW, clause.succedent.as_slice(), clause) {
+    if is_subsumed_by(
+        lines,
+        filing,
+        AFTER_ARROW,
+        clause.succedent.as_slice(),
+        clause,
+    ) {
         return true;
     }
-    if is_subsumed_by(lines, filing, BEFORE_ARROW, clause.antecedent.as_slice(), clause) {
+    if is_subsumed_by(
+        lines,
+        filing,
+        BEFORE_ARROW,
+        clause.antecedent.as_slice(),
+        clause,
+    ) {
         return true;
     }
-    is_subsumed_by(lines, filing, BEFORE_ARROW, clause.constraint.as_slice(), clause)
+    is_subsumed_by(
+        lines,
+        filing,
+        BEFORE_ARROW,
+        clause.constraint.as_slice(),
+        clause,
+    )
 }
 
 /// Whether a line is a subclause of the clause; where none is, no line states it.

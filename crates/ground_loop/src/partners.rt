@@ -86,8 +86,23 @@ pub fn partners_of(
     ensures all { IfOk result (λ values. HasPartners literals.now.entries.items clause.now values.items) }
 {
     let mut values = Vec::new(alloc);
-    add_values_of(literals, AFTER_ARROW, clause.constraint.as_slice(), &mut values)?;
-    add_values_of(literals, AFTER_ARROW, clause.antecedent.as_slice(), &mut values)?;
-    add_values_of(literals, BEFORE_ARROW, clause.succedent.as_slice(), &mut values)?;
+    add_values_of(
+        literals,
+        AFTER_ARROW,
+        clause.constraint.as_slice(),
+        &mut values,
+    )?;
+    add_values_of(
+        literals,
+        AFTER_ARROW,
+        clause.antecedent.as_slice(),
+        &mut values,
+    )?;
+    add_values_of(
+        literals,
+        BEFORE_ARROW,
+        clause.succedent.as_slice(),
+        &mut values,
+    )?;
     Ok(values)
 }

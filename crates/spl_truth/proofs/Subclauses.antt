@@ -170,12 +170,12 @@ unfolding place_of
 is_place r a [] h = absurd (omega (arith, h))
 is_place zero a (b ∷ bs) h =
     by_test (IsPlace zero a (b ∷ bs)) (is_same a b) 0 (suc (place_of zero a bs))
-      (λ e. record { b = b; found = refl; same = e; before = refl })
-      (λ e. passed zero a b bs (place_of zero a bs) e (is_place zero a bs (omega (arith, h, if_false (is_same a b) (suc (count a bs)) (count a bs) e))))
+    (λ e. record { b = b; found = refl; same = e; before = refl })
+    (λ e. passed zero a b bs (place_of zero a bs) e (is_place zero a bs (omega (arith, h, if_false (is_same a b) (suc (count a bs)) (count a bs) e))))
 is_place (suc r) a (b ∷ bs) h =
     by_test (IsPlace (suc r) a (b ∷ bs)) (is_same a b) (suc (place_of r a bs)) (suc (place_of (suc r) a bs))
-      (λ e. counted_one r a b bs (place_of r a bs) e (is_place r a bs (omega (arith, h, if_true (is_same a b) (suc (count a bs)) (count a bs) e))))
-      (λ e. passed (suc r) a b bs (place_of (suc r) a bs) e (is_place (suc r) a bs (omega (arith, h, if_false (is_same a b) (suc (count a bs)) (count a bs) e))))
+    (λ e. counted_one r a b bs (place_of r a bs) e (is_place r a bs (omega (arith, h, if_true (is_same a b) (suc (count a bs)) (count a bs) e))))
+    (λ e. passed (suc r) a b bs (place_of (suc r) a bs) e (is_place (suc r) a bs (omega (arith, h, if_false (is_same a b) (suc (count a bs)) (count a bs) e))))
 
 -- ---- a list that is contained maps into the other one
 

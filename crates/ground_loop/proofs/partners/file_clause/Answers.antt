@@ -26,6 +26,6 @@ returns-clause-clause c =
     let two = subst (λ atoms. HasAtoms d before_arrow atoms n) c.as_slice-2.ensures c.in_ok-file_atoms-2.ensures.atoms in
     let three = subst (λ atoms. HasAtoms e after_arrow atoms n) c.as_slice-3.ensures c.in_ok-file_atoms-3.ensures.atoms in
     three_parts e clause n
-      (atoms_kept d e before_arrow clause.constraint n n last (atoms_kept b d before_arrow clause.constraint n n then one))
-      (atoms_kept d e before_arrow clause.antecedent n n last two)
-      three
+    (atoms_kept d e before_arrow clause.constraint n n last (atoms_kept b d before_arrow clause.constraint n n then one))
+    (atoms_kept d e before_arrow clause.antecedent n n last two)
+    three

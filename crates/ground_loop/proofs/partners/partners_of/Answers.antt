@@ -20,6 +20,6 @@ returns-clause-all c =
     let two = subst (λ atoms. HasValuesOf es after_arrow atoms d) c.as_slice-2.ensures c.in_ok-add_values_of-2.ensures.all in
     let three = subst (λ atoms. HasValuesOf es before_arrow atoms e) c.as_slice-3.ensures c.in_ok-add_values_of-3.ensures.all in
     three_partners es clause e
-      (values_kept es after_arrow clause.constraint d e last (values_kept es after_arrow clause.constraint b d then one))
-      (values_kept es after_arrow clause.antecedent d e last two)
-      three
+    (values_kept es after_arrow clause.constraint d e last (values_kept es after_arrow clause.constraint b d then one))
+    (values_kept es after_arrow clause.antecedent d e last two)
+    three
