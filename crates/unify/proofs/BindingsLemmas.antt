@@ -65,16 +65,6 @@ undone_in_fields terms made made' v t index is =
     let h = undone_once (plain_terms terms) (v, t.now) (newest_first made') (subst (IsIndexed (plain_terms terms)) p index) in
     subst (λ l. IsIndexed l (newest_first made')) (sym (map-set (option_map (λ (x : Bor Term). x.now)) terms v None)) h
 
-pub newest_in_range : (terms : List (Option (Bor Term))) (made made' : List (ℕ × Bor Term)) (v : ℕ) (t : Bor Term) → IsIndexed (plain_terms terms) (newest_first made) → made ≡ made' ++ (v, t) ∷ [] → v < length terms
-newest_in_range terms made made' v t index is =
-    let p = ap newest_first is ∙ newest_last made' v t in
-    let k : IsIndexed (plain_terms terms) ((v, t.now) ∷ newest_first made') = subst (IsIndexed (plain_terms terms)) p index in
-    let lt = k.once.0 in
-    omega (arith, length_plain terms)
-
-pub newest_dropped : (made made' : List (ℕ × Bor Term)) (v : ℕ) (t : Bor Term) → made ≡ made' ++ (v, t) ∷ [] → newest_first made' ≡ drop 1 (newest_first made)
-newest_dropped made made' v t is = sym (ap (drop 1) (ap newest_first is ∙ newest_last made' v t))
-
 -- ---- as many bindings as before
 
 -- the newest ones were dropped, and no more than those past the first `count`

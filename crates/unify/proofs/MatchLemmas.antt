@@ -1,8 +1,9 @@
 -- What matching finds.
 use Rattle.std.proofs.Common.{◌≡◌, ℕ, ◌+◌, ◌≤◌, ◌<◌, Bool, true, false, ◌||◌, ◌==◌, if◌then◌else◌, eq-eqb, List, [], ◌∷◌, ◌++◌, length, map, Some, None, unwrap_or, refl, sym, ap, subst, ◌∙◌, arith}
-use Rattle.std.specs.Prelude.{◌-◌, ◌*◌, sum, take, drop}
-use Rattle.std.proofs.Common.{get_or}
-use Rattle.std.proofs.Math.Seq.{take-length}
+use Rattle.std.specs.Prelude.{◌*◌, sum, take}
+use Rattle.std.proofs.Common.{get_or, zero, suc, add-one}
+use Rattle.std.proofs.lemmas.List.{map-append, take-map}
+use Rattle.std.proofs.lemmas.List.Folds.{list_any-append}
 use Rattle.std.proofs.lemmas.List.Sums.{sum_by-cons}
 use Rattle.std.specs.List.{list_any}
 use Rattle.std.proofs.lemmas.Bool.{eqb-true, false≢true}
@@ -14,7 +15,7 @@ use Rattle.spl_truth.specs.Truth.{entry}
 use Rattle.spl_truth.specs.Unifiers.{occurs, entries_below, HasVariablesBelow, HaveVariablesBelow}
 use Rattle.spl_truth.specs.Matching.{IsMatcher, HasNoMatcher}
 use Rattle.spl_truth.proofs.Replacing.{replace-Var, replace-App}
-use Rattle.spl_truth.proofs.Occurring.{same_arguments, same_symbols, no_application, or_left, or_right, occurs-Var, occurs-App}
+use Rattle.spl_truth.proofs.Occurring.{same_arguments, or_left, or_right, occurs-Var, occurs-App}
 use Rattle.spl_truth.proofs.Entries.{length-entries_below, entry-entries_below}
 use Rattle.unify.specs.Below.{AllBelow}
 use Rattle.unify.specs.Bindings.{bound_to, filled}
@@ -60,9 +61,6 @@ bound_now made made' v t e is = subst (IsFound (λ g. g v ≡ t) (λ w. w == v) 
 pub extended_not : (b : ℕ × List (ℕ × Term)) → IsExtended b b
 extended_not b = record { as_many = refl; more = []; made = refl }
 
-pub extended_same : (b b' : ℕ × List (ℕ × Term)) → b' ≡ b → IsExtended b b'
-extended_same b b' is = subst (IsExtended b) (sym is) (extended_not b)
-
 pub extended_once : (b b' : ℕ × List (ℕ × Term)) (v : ℕ) (t : Term) → b' ≡ (b.0, (v, t) ∷ b.1) → IsExtended b b'
 extended_once b b' v t is = record { as_many = ap (λ (x : ℕ × List (ℕ × Term)). x.0) is; more = (v, t) ∷ []; made = ap (λ (x : ℕ × List (ℕ × Term)). x.1) is }
 
@@ -106,14 +104,6 @@ found_both one other inside inside' old mid new false h k = λ g a is. k g (h.on
 pub match_Var : (v : ℕ) (p t : Term) (old new : List (ℕ × Term)) (ok : Bool) → p ≡ Var v → FoundOrNot (λ g. g v ≡ t) (λ w. w == v) old new ok → FoundOrNot (λ g. replace g p ≡ t) (λ w. occurs w p) old new ok
 match_Var v p t old new ok is = found_as _ _ _ _ old new ok (λ g e. ap (replace g) is ∙ replace-Var g v ∙ e) (λ g e. sym (ap (replace g) is ∙ replace-Var g v) ∙ e) (λ w. ap (occurs w) is ∙ occurs-Var w v)
 
-pub match_apart : (p t : Term) (f : Symbol) (ss : List Term) (w : ℕ) (old new : List (ℕ × Term)) → p ≡ App f ss → t ≡ Var w → FoundOrNot (λ g. replace g p ≡ t) (λ w. occurs w p) old new false
-match_apart p t f ss w old new is is' = λ g a e. no_application w f (map (replace g) ss) (sym (replace-App g f ss) ∙ ap (replace g) (sym is) ∙ e ∙ is')
-
-pub match_heads : (p t : Term) (f h : Symbol) (ss ts : List Term) (old new : List (ℕ × Term)) → p ≡ App f ss → t ≡ App h ts → symbol_eq f h ≡ false → FoundOrNot (λ g. replace g p ≡ t) (λ w. occurs w p) old new false
-match_heads p t f h ss ts old new is is' differ = λ g a e.
-    let same : f ≡ h = same_symbols _ _ _ _ (sym (replace-App g f ss) ∙ ap (replace g) (sym is) ∙ e ∙ is') in
-    false≢true (sym differ ∙ ap (symbol_eq f) (sym same) ∙ symbol_eq-refl f)
-
 pub match_App : (p t : Term) (f h : Symbol) (ss ts : List Term) (old new : List (ℕ × Term)) (ok : Bool) → p ≡ App f ss → t ≡ App h ts → symbol_eq f h ≡ true → FoundOrNot (λ g. map (replace g) ss ≡ ts) (λ w. list_any (occurs w) ss) old new ok → FoundOrNot (λ g. replace g p ≡ t) (λ w. occurs w p) old new ok
 match_App p t f h ss ts old new ok is is' alike =
     let same : f ≡ h = symbol_eq-true f h alike in
@@ -121,20 +111,6 @@ match_App p t f h ss ts old new ok is is' alike =
     (λ g e. ap (replace g) is ∙ replace-App g f ss ∙ (λ i. App (same i) (e i)) ∙ sym is')
     (λ g e. same_arguments _ _ _ _ (sym (replace-App g f ss) ∙ ap (replace g) (sym is) ∙ e ∙ is'))
     (λ w. ap (occurs w) is ∙ occurs-App w f ss)
-
-pub match_nil : (old : List (ℕ × Term)) → IsFound (λ g. map (replace g) [] ≡ []) (λ w. list_any (occurs w) []) old old
-match_nil old = record { onward = λ g a _. a; old_kept = λ g a. a; done = λ g a. refl; others = λ w no. refl }
-
-pub match_first : (p t : Term) (ps ts : List Term) (old mid new : List (ℕ × Term)) (ok : Bool) → IsFound (λ g. replace g p ≡ t) (λ w. occurs w p) old mid → FoundOrNot (λ g. map (replace g) ps ≡ ts) (λ w. list_any (occurs w) ps) mid new ok → FoundOrNot (λ g. map (replace g) (p ∷ ps) ≡ t ∷ ts) (λ w. list_any (occurs w) (p ∷ ps)) old new ok
-match_first p t ps ts old mid new ok h k =
-    found_as (λ g. (replace g p ≡ t) × (map (replace g) ps ≡ ts)) _ (λ w. occurs w p || list_any (occurs w) ps) _ old new ok
-    (λ g e. let a = e.0 in let b = e.1 in λ i. a i ∷ b i)
-    (λ g e. let a : replace g p ≡ t = cc in let b : map (replace g) ps ≡ ts = cc in (a, b))
-    (λ w. refl)
-    (found_both _ _ _ _ old mid new ok h k)
-
-pub match_not : (p t : Term) (ps ts : List Term) (old mid new : List (ℕ × Term)) → FoundOrNot (λ g. replace g p ≡ t) (λ w. occurs w p) old mid false → FoundOrNot (λ g. map (replace g) (p ∷ ps) ≡ t ∷ ts) (λ w. list_any (occurs w) (p ∷ ps)) old new false
-match_not p t ps ts old mid new h = λ g a e. let q : replace g p ≡ t = cc in h g a q
 
 -- ---- the whole
 
@@ -167,31 +143,99 @@ not_matched_with vars p t old new ok begins e h g is =
 pub at_head : (f : Symbol) (ps ts : List Term) (old new : List (ℕ × Term)) (ok : Bool) → FoundOrNot (λ g. map (replace g) ps ≡ ts) (λ w. list_any (occurs w) ps) old new ok → FoundOrNot (λ g. replace g (App f ps) ≡ App f ts) (λ w. occurs w (App f ps)) old new ok
 at_head f ps ts old new ok h = match_App (App f ps) (App f ts) f f ps ts old new ok refl refl (symbol_eq-refl f) h
 
--- ---- the first of a slice, and the rest
+-- ---- the items of a slice, one after another
 
-pub head_tail : (ps : List Term) (x : Term) → 1 ≤ length ps → x ≡ get_or ps 0 x → ps ≡ x ∷ take (length ps - 1) (drop 1 ps)
-head_tail [] x h e = absurd (omega arith)
-head_tail (y ∷ ps) x h e =
-    let n : length (y ∷ ps) - 1 ≡ length ps = omega arith in
-    let q : y ≡ x = sym e in
-    λ i. q i ∷ (sym (ap (λ m. take m ps) n ∙ take-length ps)) i
+take_next : (xs : List Term) (i : ℕ) (x : Term) → i < length xs → x ≡ get_or xs i x → take (suc i) xs ≡ take i xs ++ x ∷ []
+take_next [] i x h e = absurd (omega arith)
+take_next (y ∷ xs) zero x h e = let q : y ≡ x = sym e in λ j. q j ∷ []
+take_next (y ∷ xs) (suc i) x h e = ap (λ l. y ∷ l) (take_next xs i x (omega arith) e)
 
-module _ (ps : List Term) (x : Term) (h : 1 ≤ length ps) (e : x ≡ get_or ps 0 x) where
-  pub first_below : (n : ℕ) → HaveVariablesBelow n ps → HasVariablesBelow n x
-  first_below n all = below_to n x (λ v o. are_below_from n ps all v (ap (list_any (occurs v)) (head_tail ps x h e) ∙ or_left _ _ o))
+no_last : (xs : List Term) (x : Term) → [] ≡ xs ++ x ∷ [] → ⊥
+no_last [] x e = cc
+no_last (y ∷ xs) x e = cc
 
-  pub rest_below : (n m : ℕ) → m ≡ n → HaveVariablesBelow n ps → HaveVariablesBelow m (take (length ps - 1) (drop 1 ps))
-  rest_below n m same all = are_below_to m _ (λ v o. let lt : v < n = are_below_from n ps all v (ap (list_any (occurs v)) (head_tail ps x h e) ∙ or_right (occurs v x) _ o) in omega arith)
+last_same : (xs ys : List Term) (x y : Term) → xs ++ x ∷ [] ≡ ys ++ y ∷ [] → (xs ≡ ys) × (x ≡ y)
+last_same [] [] x y e = let q : x ≡ y = cc in (refl, q)
+last_same [] (b ∷ ys) x y e = let q : [] ≡ ys ++ y ∷ [] = cc in absurd (no_last ys y q)
+last_same (a ∷ xs) [] x y e = let q : xs ++ x ∷ [] ≡ [] = cc in absurd (no_last xs x (sym q))
+last_same (a ∷ xs) (b ∷ ys) x y e =
+    let q : a ≡ b = cc in
+    let r : xs ++ x ∷ [] ≡ ys ++ y ∷ [] = cc in
+    let k = last_same xs ys x y r in
+    ((λ j. q j ∷ k.0 j), k.1)
 
-  sizes : sum (map term_symbols ps) ≡ term_symbols x + sum (map term_symbols (take (length ps - 1) (drop 1 ps)))
-  sizes = ap (λ l. sum (map term_symbols l)) (head_tail ps x h e) ∙ sum_by-cons (λ n. n) (term_symbols x) (map term_symbols (take (length ps - 1) (drop 1 ps)))
+any-last : (v : ℕ) (xs : List Term) (x : Term) → list_any (occurs v) (xs ++ x ∷ []) ≡ (list_any (occurs v) xs || occurs v x)
+any-last v xs x = list_any-append (occurs v) xs (x ∷ []) ∙ ap (λ b. list_any (occurs v) xs || b) (or_nothing (occurs v x))
+  where
+    or_nothing : (b : Bool) → (b || false) ≡ b
+    or_nothing true = refl
+    or_nothing false = refl
 
-  pub first_smaller : 2 * term_symbols x < 2 * sum (map term_symbols ps) + 1
-  first_smaller = omega (arith, sizes)
+-- the first so many patterns become the targets at their places
+abbrev pub Become : List Term → List Term → ℕ → (ℕ → Term) → Type 0
+Become ps ts i g = map (replace g) (take i ps) ≡ take i ts
 
-module _ (ps : List Term) (x : Term) (h : 1 ≤ length ps) (e : x ≡ get_or ps 0 x) where
-  pub rest_smaller : 2 * sum (map term_symbols (take (length ps - 1) (drop 1 ps))) + 1 < 2 * sum (map term_symbols ps) + 1
-  rest_smaller = omega (arith, sizes ps x h e, term_symbols-positive x)
+module _ (ps ts : List Term) (i : ℕ) (p t : Term) (lp : i < length ps) (lt : i < length ts) (ep : p ≡ get_or ps i p) (et : t ≡ get_or ts i t) where
+  next_becomes : (g : ℕ → Term) → Become ps ts i g → replace g p ≡ t → Become ps ts (i + 1) g
+  next_becomes g a b =
+      ap (λ k. map (replace g) (take k ps)) (add-one i)
+      ∙ ap (map (replace g)) (take_next ps i p lp ep)
+      ∙ map-append (replace g) (take i ps) (p ∷ [])
+      ∙ (λ j. a j ++ b j ∷ [])
+      ∙ sym (ap (λ k. take k ts) (add-one i) ∙ take_next ts i t lt et)
+
+  next_became : (g : ℕ → Term) → Become ps ts (i + 1) g → Become ps ts i g × (replace g p ≡ t)
+  next_became g e = last_same _ _ _ _ (
+      sym (ap (λ k. map (replace g) (take k ps)) (add-one i) ∙ ap (map (replace g)) (take_next ps i p lp ep) ∙ map-append (replace g) (take i ps) (p ∷ []))
+      ∙ e
+      ∙ ap (λ k. take k ts) (add-one i)
+      ∙ take_next ts i t lt et
+      )
+
+  pub found_next : (old mid new : List (ℕ × Term)) (ok : Bool) → ok ≡ true → IsFound (Become ps ts i) (λ v. list_any (occurs v) (take i ps)) old mid → FoundOrNot (λ g. replace g p ≡ t) (λ v. occurs v p) mid new ok → IsFound (Become ps ts (i + 1)) (λ v. list_any (occurs v) (take (i + 1) ps)) old new
+  found_next old mid new ok yes' h k =
+      found_as (λ g. Become ps ts i g × (replace g p ≡ t)) (Become ps ts (i + 1)) (λ v. list_any (occurs v) (take i ps) || occurs v p) (λ v. list_any (occurs v) (take (i + 1) ps)) old new true
+      (λ g e. next_becomes g e.0 e.1)
+      next_became
+      (λ v. ap (λ n. list_any (occurs v) (take n ps)) (add-one i) ∙ ap (list_any (occurs v)) (take_next ps i p lp ep) ∙ any-last v (take i ps) p)
+      (found_both _ _ _ _ old mid new true h (subst (FoundOrNot (λ g. replace g p ≡ t) (λ v. occurs v p) mid new) yes' k))
+
+  pub found_no_more : (old mid new : List (ℕ × Term)) (ok : Bool) → ok ≡ false → IsFound (Become ps ts i) (λ v. list_any (occurs v) (take i ps)) old mid → FoundOrNot (λ g. replace g p ≡ t) (λ v. occurs v p) mid new ok → (g : ℕ → Term) → Agrees g old → map (replace g) ps ≡ ts → ⊥
+  found_no_more old mid new ok no' h k g a e =
+      let both = next_became g (sym (take-map (replace g) (i + 1) ps) ∙ ap (take (i + 1)) e) in
+      (subst (FoundOrNot (λ g. replace g p ≡ t) (λ v. occurs v p) mid new) no' k) g (h.onward g a both.0) both.1
+
+  pub item_smaller : 2 * term_symbols p < 2 * sum (map term_symbols ps) + 1
+  item_smaller = let k = item_size ps i lp ep in omega (arith, k)
+    where
+      item_size : (xs : List Term) (n : ℕ) → n < length xs → p ≡ get_or xs n p → term_symbols p ≤ sum (map term_symbols xs)
+      item_size [] n h e = absurd (omega arith)
+      item_size (x ∷ xs) zero h e = let q = ap term_symbols e in omega (arith, q, sum_by-cons (λ m. m) (term_symbols x) (map term_symbols xs))
+      item_size (x ∷ xs) (suc n) h e = let q = item_size xs n (omega arith) e in omega (arith, q, sum_by-cons (λ m. m) (term_symbols x) (map term_symbols xs))
+
+  pub item_below : (n m : ℕ) → m ≡ n → HaveVariablesBelow n ps → HasVariablesBelow m p
+  item_below n m same all = below_to m p (λ v o. let lt : v < n = are_below_from n ps all v (here ps i lp ep v o) in omega arith)
+    where
+      here : (xs : List Term) (n : ℕ) → n < length xs → p ≡ get_or xs n p → (v : ℕ) → occurs v p ≡ true → list_any (occurs v) xs ≡ true
+      here [] n h e v o = absurd (omega arith)
+      here (x ∷ xs) zero h e v o = or_left _ _ (ap (occurs v) (sym e) ∙ o)
+      here (x ∷ xs) (suc n) h e v o = or_right (occurs v x) _ (here xs n (omega arith) e v o)
+
+take_whole : (xs : List Term) (n : ℕ) → length xs ≤ n → take n xs ≡ xs
+take_whole [] zero h = refl
+take_whole [] (suc n) h = refl
+take_whole (x ∷ xs) zero h = absurd (omega arith)
+take_whole (x ∷ xs) (suc n) h = ap (λ l. x ∷ l) (take_whole xs n (omega arith))
+
+pub found_whole : (ps ts : List Term) (i : ℕ) (old new : List (ℕ × Term)) → length ps ≡ length ts → length ps ≤ i → IsFound (Become ps ts i) (λ v. list_any (occurs v) (take i ps)) old new → IsFound (λ g. map (replace g) ps ≡ ts) (λ v. list_any (occurs v) ps) old new
+found_whole ps ts i old new same all h =
+    let p = take_whole ps i all in
+    let q = take_whole ts i (omega arith) in
+    found_as (Become ps ts i) _ (λ v. list_any (occurs v) (take i ps)) _ old new true
+    (λ g e. ap (map (replace g)) (sym p) ∙ e ∙ q)
+    (λ g e. ap (map (replace g)) p ∙ e ∙ sym q)
+    (λ v. ap (list_any (occurs v)) (sym p))
+    h
 
 pub args_smaller : (p : Term) (f : Symbol) (ss sl : List Term) → p ≡ App f ss → sl ≡ ss → 2 * sum (map term_symbols sl) + 1 < 2 * term_symbols p
 args_smaller p f ss sl is same = omega (arith, ap (λ l. sum (map term_symbols l)) same, ap term_symbols is, term_symbols-App f ss)
@@ -201,20 +245,6 @@ args_below n p f ss sl is same all = are_below_to n sl (arguments_below n p f sl
 
 pub var_below : (n : ℕ) (p : Term) (v : ℕ) → p ≡ Var v → HasVariablesBelow n p → v < n
 var_below n p v is all = below_from n p all v (ap (occurs v) is ∙ occurs-Var v v ∙ eq-eqb v v refl)
-
-pub when_true : (asked : (ℕ → Term) → Type 0) (inside : ℕ → Bool) (old new : List (ℕ × Term)) (ok : Bool) → ok ≡ true → FoundOrNot asked inside old new ok → IsFound asked inside old new
-when_true asked inside old new ok e h = subst (FoundOrNot asked inside old new) e h
-
-pub match_slices : (ps ts : List Term) (x y : Term) (old mid new : List (ℕ × Term)) (one ok : Bool) → 1 ≤ length ps → 1 ≤ length ts → x ≡ get_or ps 0 x → y ≡ get_or ts 0 y → one ≡ true → FoundOrNot (λ g. replace g x ≡ y) (λ w. occurs w x) old mid one → FoundOrNot (λ g. map (replace g) (take (length ps - 1) (drop 1 ps)) ≡ take (length ts - 1) (drop 1 ts)) (λ w. list_any (occurs w) (take (length ps - 1) (drop 1 ps))) mid new ok → FoundOrNot (λ g. map (replace g) ps ≡ ts) (λ w. list_any (occurs w) ps) old new ok
-match_slices ps ts x y old mid new one ok lp lt ep et e h k =
-    let p = head_tail ps x lp ep in
-    let q = head_tail ts y lt et in
-    let r = sym p in
-    found_as _ _ _ _ old new ok
-    (λ g is. ap (map (replace g)) p ∙ is ∙ sym q)
-    (λ g is. ap (map (replace g)) r ∙ is ∙ q)
-    (λ w. ap (list_any (occurs w)) p)
-    (match_first x y _ _ old mid new ok (when_true _ _ old mid one e h) k)
 
 pub match_args : (p t : Term) (f h : Symbol) (ss ts sl sl' : List Term) (old new : List (ℕ × Term)) (same ok : Bool) → p ≡ App f ss → t ≡ App h ts → same ≡ symbol_eq f h → same ≡ true → sl ≡ ss → sl' ≡ ts → FoundOrNot (λ g. map (replace g) sl ≡ sl') (λ w. list_any (occurs w) sl) old new ok → FoundOrNot (λ g. replace g p ≡ t) (λ w. occurs w p) old new ok
 match_args p t f h ss ts sl sl' old new same ok is is' s e a b k =

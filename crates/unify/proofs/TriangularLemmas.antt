@@ -1,5 +1,5 @@
 -- Bindings as they were made, and what they stand for when they are applied to each other.
-use Rattle.std.proofs.Common.{◌≡◌, ℕ, zero, suc, ◌+◌, ◌*◌, ◌<◌, nat_lt, Bool, true, false, ◌||◌, ◌==◌, if◌then◌else◌, eq-eqb, List, [], ◌∷◌, map, sum_by, Option, Some, None, refl, sym, ap, subst, ◌∙◌, arith}
+use Rattle.std.proofs.Common.{◌≡◌, ℕ, zero, suc, ◌<◌, nat_lt, Bool, true, false, ◌||◌, ◌==◌, if◌then◌else◌, eq-eqb, List, [], ◌∷◌, map, sum_by, Option, Some, None, refl, sym, ap, subst, ◌∙◌, arith}
 use Rattle.std.specs.List.{list_any}
 use Rattle.std.proofs.lemmas.Bool.{eqb-true, lt-ltb, false≢true}
 use Rattle.spl_terms.specs.declared.term.Symbol.{Symbol}
@@ -8,8 +8,8 @@ use Rattle.spl_terms.specs.declared.term.Term.TheViews.{outs-Var, outs-App}
 use Rattle.spl_terms.specs.Terms.{term_symbols, replace}
 use Rattle.spl_terms.proofs.TermLemmas.{term_induction}
 use Rattle.spl_truth.specs.Unifiers.{occurs, single, bind}
-use Rattle.spl_truth.proofs.Replacing.{replace-Var, replace-App, replace-replace, symbols-replace-App}
-use Rattle.spl_truth.proofs.Occurring.{same_variables, no_application, agree, replace-themselves, occurs-Var, occurs-App, occurs-self}
+use Rattle.spl_truth.proofs.Replacing.{replace-Var, replace-App, replace-replace}
+use Rattle.spl_truth.proofs.Occurring.{no_application, agree, replace-themselves, occurs-Var, occurs-App, occurs-self}
 use Rattle.spl_truth.proofs.Solving.{cap, IsWithin, IsFine, CanBind, cap-inside, within-replace, instance_at, single-apart, bind_fine, bound_at}
 use Rattle.spl_truth.proofs.Unifying.{at_first}
 use Rattle.unify.specs.Below.{IsBelow}
@@ -154,12 +154,6 @@ same_on vars made h v t u is e = sym (looked_up vars made h v u e) ∙ sym (repl
 
 -- ---- where a term is no bound variable
 
-pub free_variable : (made : List (ℕ × Term)) (t : Term) (v : ℕ) → t ≡ Var v → bound_to made v ≡ None → IsFree made t
-free_variable made t v is e w is' = ap (bound_to made) (same_variables w v (sym is' ∙ is)) ∙ e
-
-pub free_application : (made : List (ℕ × Term)) (t : Term) (f : Symbol) (ts : List Term) → t ≡ App f ts → IsFree made t
-free_application made t f ts is w is' = absurd (no_application w f ts (sym is ∙ is'))
-
 pub stays_variable : (vars : ℕ) (made : List (ℕ × Term)) → IsTriangular vars made → (t : Term) (v : ℕ) → t ≡ Var v → IsFree made t → replace (substitution made) t ≡ Var v
 stays_variable vars made h t v is free = ap (replace (substitution made)) is ∙ replace-Var (substitution made) v ∙ (stands vars made h).1 v (free v is)
 
@@ -182,10 +176,6 @@ size made t = term_symbols (replace (substitution made) t)
 
 abbrev pub sizes : List (ℕ × Term) → List Term → ℕ
 sizes made = sum_by (size made)
-
-pub arguments_smaller : (made : List (ℕ × Term)) (t u : Term) (f : Symbol) (ts sl : List Term) → u ≡ App f ts → sl ≡ ts → replace (substitution made) u ≡ replace (substitution made) t → 2 * sizes made sl + 1 < 2 * size made t
-arguments_smaller made t u f ts sl is same stands =
-    omega (arith, ap (sizes made) same, ap term_symbols (sym stands), ap (size made) is, symbols-replace-App (substitution made) f ts)
 
 -- ---- occurring with the bindings applied
 

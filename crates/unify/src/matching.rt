@@ -77,19 +77,15 @@ pub fn match_terms<'a>(
     ensures found { IfOk result (λ yes. FoundOrNot (λ g. map (replace g) patterns.now ≡ targets.now) (λ v. list_any (occurs v) patterns.now) found.old.1 found.new.1 yes) }
     ensures extended { IsExtended found.old found.new }
 {
-    match patterns {
-        [] => Ok(targets.is_empty()),
-        [first, rest @ ..] => match targets {
-            [] => Ok(false),
-            [other, more @ ..] => {
-                if !match_term(first, other, found)? {
-                    return Ok(false);
-                }
-                let matches = match_terms(rest, more, found)?;
-                Ok(matches)
-            }
-        },
+    if patterns.len() != targets.len() {
+        return Ok(false);
     }
+    for (place, pattern) in patterns.iter().enumerate() {
+        if !match_term(pattern, &targets[place], found)? {
+            return Ok(false);
+        }
+    }
+    Ok(true)
 }
 
 /// The substitution that makes the target of the pattern, with an entry for each variable below `vars`; none exactly

@@ -1,4 +1,4 @@
-ghost use Rattle.std.specs.Prelude.{◌≡◌, map, IfOk};
+ghost use Rattle.std.specs.Prelude.{◌≡◌, [], ◌∷◌, ◌++◌, map, IfOk, OnOk};
 ghost use Rattle.std.specs.List.{list_any};
 ghost use Rattle.spl_terms.specs.Terms.{replace};
 ghost use Rattle.spl_truth.specs.Unifiers.{occurs};
@@ -51,25 +51,27 @@ fn occurs_in<'a>(bindings: &Bindings<'a>, variable: u32, terms: &'a [Term]) -> b
     false
 }
 
-/// The term with the bindings applied. The only error is want of memory.
+/// Adds the term with the bindings applied to the end of a list. The only error is want of memory.
 #[cycle(applying)]
-pub(crate) fn applied<'a>(
+pub(crate) fn push_applied<'a>(
     alloc: Global,
     bindings: &Bindings<'a>,
     term: &'a Term,
-) -> Result<Term, AllocError>
+    made: &mut Items<Term>,
+) -> Result<(), AllocError>
     requires { IsTriangular bindings.now.0 bindings.now.1 }
-    ensures { IfOk result (λ made. made ≡ replace (substitution bindings.now.1) term.now) }
+    ensures { OnOk result (made.new ≡ made.old ++ replace (substitution bindings.now.1) term.now ∷ []) }
 {
     match dereferenced(bindings, term) {
-        Term::Var(variable) => Ok(Term::Var(*variable)),
-        Term::App(symbol, args) => Ok(Term::App(
-            *symbol,
-            all_applied(alloc, bindings, args.as_slice())?,
-        )),
+        Term::Var(variable) => made.push(Term::Var(*variable)),
+        Term::App(symbol, args) => {
+            let args = all_applied(alloc, bindings, args.as_slice())?;
+            made.push(Term::App(*symbol, args))
+        }
     }
 }
 
+/// The terms with the bindings applied, with no room to spare. The only error is want of memory.
 #[cycle(applying)]
 fn all_applied<'a>(
     alloc: Global,
@@ -81,7 +83,7 @@ fn all_applied<'a>(
 {
     let mut made = Items::with_room(alloc, terms.len())?;
     for term in terms {
-        made.push(applied(alloc, bindings, term)?)?;
+        push_applied(alloc, bindings, term, &mut made)?;
     }
     Ok(made)
 }

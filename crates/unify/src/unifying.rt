@@ -1,4 +1,4 @@
-ghost use Rattle.std.specs.Prelude.{◌≡◌, ◌<◌, ◌&&◌, ◌==◌, ◌↔◌, [], ◌∷◌, length, option_map, None, IsTrue, IfOk, IfSome, MatchOption};
+ghost use Rattle.std.specs.Prelude.{◌≡◌, ◌<◌, ◌&&◌, ◌==◌, ◌↔◌, [], ◌∷◌, ◌++◌, length, option_map, None, IsTrue, IfOk, OnOk, IfSome, MatchOption};
 ghost use Rattle.spl_terms.specs.Terms.{symbol_eq};
 ghost use Rattle.spl_terms.specs.declared.term.Term.{Var, App};
 ghost use Rattle.spl_truth.specs.Truth.{entry};
@@ -10,7 +10,7 @@ ghost use Rattle.unify.specs.Solving.{Eliminated, Progressed, Settled, outcome};
 use crate::bindings::Bindings;
 use crate::equations::Equations;
 use crate::fitting::{all_fit, fits};
-use crate::triangular::{applied, dereferenced, occurs};
+use crate::triangular::{dereferenced, occurs, push_applied};
 use spl_terms::{Items, Symbol, Term};
 use spl_truth::{Subst, laws};
 use std::alloc::{AllocError, Global};
@@ -135,18 +135,19 @@ fn solve<'a>(bindings: &mut Bindings<'a>, equations: &mut Equations<'a>) -> Resu
     }
 }
 
-/// What the variable stands for, with the bindings applied. The only error is want of memory.
-fn applied_entry<'a>(
+/// Adds what the variable stands for, with the bindings applied, to the end of a list. The only error is want of memory.
+fn push_entry<'a>(
     alloc: Global,
     bindings: &Bindings<'a>,
     variable: u32,
-) -> Result<Term, AllocError>
+    entries: &mut Items<Term>,
+) -> Result<(), AllocError>
     requires { IsTriangular bindings.now.0 bindings.now.1 }
-    ensures { IfOk result (λ term. term ≡ substitution bindings.now.1 variable) }
+    ensures { OnOk result (entries.new ≡ entries.old ++ substitution bindings.now.1 variable ∷ []) }
 {
     match bindings.get(variable) {
-        Some(term) => applied(alloc, bindings, term),
-        None => Ok(Term::Var(variable)),
+        Some(term) => push_applied(alloc, bindings, term, entries),
+        None => entries.push(Term::Var(variable)),
     }
 }
 
@@ -157,13 +158,13 @@ fn applied_entries<'a>(
     vars: u32,
 ) -> Result<Items<Term>, AllocError>
     requires { IsTriangular bindings.now.0 bindings.now.1 }
-    ensures { IfOk result (λ terms. terms ≡ entries_below vars (substitution bindings.now.1)) }
+    ensures { IfOk result (λ entries. entries ≡ entries_below vars (substitution bindings.now.1)) }
 {
-    let mut terms = Items::with_room(alloc, vars as usize)?;
+    let mut entries = Items::with_room(alloc, vars as usize)?;
     for variable in 0..vars {
-        terms.push(applied_entry(alloc, bindings, variable)?)?;
+        push_entry(alloc, bindings, variable, &mut entries)?;
     }
-    Ok(terms)
+    Ok(entries)
 }
 
 /// What the equations lead to, with an entry for each variable below `vars`. The only error is want of memory.
