@@ -10,5 +10,6 @@ pub mod Picks
 pub mod Retired
 pub mod Ledger
 pub mod Legals
+pub mod Positive
 pub mod Leaves
 pub mod Lens
