@@ -11,5 +11,6 @@ pub mod Retired
 pub mod Ledger
 pub mod Legals
 pub mod Positive
+pub mod Examples
 pub mod Leaves
 pub mod Lens
