@@ -1,6 +1,6 @@
--- A small journal that is legal, event by event: the clauses P and not P, of which one is worked off and the empty
+-- Small journals that are legal. The first, event by event: the clauses P and not P, of which one is worked off and the empty
 -- clause is published.
-use Rattle.std.proofs.Common.{◌≡◌, ℕ, zero, suc, ◌<◌, true, false, List, [], ◌∷◌, Some, None, refl, ◌∙◌, ap, arith, inl, inr}
+use Rattle.std.proofs.Common.{◌≡◌, ℕ, zero, suc, ◌<◌, true, false, List, [], ◌∷◌, Some, None, refl, ◌∙◌, ap, arith, inl, inr, subst}
 use Rattle.spl_terms.specs.declared.term.Kind.TheVariants.{Predicate}
 use Rattle.spl_terms.specs.declared.atom.Atom.{Atom}
 use Rattle.spl_terms.specs.declared.atom.Atom.TheVariants.{Holds}
@@ -8,14 +8,19 @@ use Rattle.spl_terms.specs.declared.clause.Part.TheVariants.{Antecedent}
 use Rattle.spl_terms.specs.declared.clause.Clause.{Clause}
 use Rattle.spl_terms.specs.Clauses.{is_empty, renumbered}
 use Rattle.proof_steps.specs.declared.step.Line.{Line}
-use Rattle.proof_steps.specs.Steps.{numbered, ground_resolve, states}
+use Rattle.proof_steps.specs.Steps.{numbered, ground_resolve, states, side_of}
 use Rattle.split_tree.specs.declared.event.Entry.{Entry}
-use Rattle.split_tree.specs.declared.event.Event.TheVariants.{Claim, Choose, Publish, Activate}
+use Rattle.split_tree.specs.declared.event.Event.{Event}
+use Rattle.split_tree.specs.Paths.{leaves, owner}
+use Rattle.proof_steps.specs.Parts.{Parted}
+use Rattle.proof_steps.specs.Checked.{IsConclusion, stated}
+use Rattle.std.specs.List.{slice_get}
+use Rattle.split_tree.specs.declared.event.Event.TheVariants.{Claim, Choose, Publish, Split, Activate}
 use Rattle.split_tree.specs.declared.event.End.TheVariants.{Proved}
-use Rattle.split_tree.specs.Journal.{Setting, input_line}
-use Rattle.split_tree.specs.Facts.{Holds as Holder}
+use Rattle.split_tree.specs.Journal.{Setting, input_line, ledger, nodes}
+use Rattle.split_tree.specs.Facts.{Holds as Holder, listed}
 use Rattle.split_tree.specs.Ending.{reason}
-use Rattle.split_tree.specs.Legal.{IsLegal, IsLegalJournal}
+use Rattle.split_tree.specs.Legal.{IsLegal, IsLegalJournal, assume}
 use Rattle.split_tree.proofs.Legals.{settled_root}
 use Rattle.split_tree.proofs.Positive.{positive_alone}
 
@@ -169,3 +174,78 @@ example_legal = (publish_legal, (choose_again_legal, (activate_legal, (choose_le
 
 pub example_proved : reason s published ≡ Some Proved
 example_proved = refl
+
+-- ---- a split: of P or Q, where P has no variables
+
+abbrev q : Atom
+q = Holds (record { number = 1; kind = Predicate }) []
+
+abbrev either : Clause
+either = record { constraint = []; antecedent = []; succedent = p ∷ q ∷ [] }
+
+abbrev t : Setting
+t = record { input = either ∷ []; limits = record { rounds = 10; steps = 10; splits = 1 }; workers = 1 }
+
+abbrev right_part : Clause
+right_part = record { constraint = []; antecedent = []; succedent = q ∷ [] }
+
+abbrev parts : Parted
+parts = record { left = positive; right = right_part; left_ground = true }
+
+abbrev left_line : Line
+left_line = record { step = assume 1 1 None; stated = states positive (side_of 1 1 ∷ []) }
+
+abbrev right_line : Line
+right_line = record { step = assume 1 2 None; stated = states right_part (side_of 1 2 ∷ []) }
+
+abbrev negated_line : Line
+negated_line = record { step = assume 1 2 (Some 0); stated = states negative (side_of 1 2 ∷ []) }
+
+abbrev split_event : Event
+split_event = Split 0 (left_line ∷ right_line ∷ negated_line ∷ []) (false ∷ false ∷ false ∷ [])
+
+abbrev after_split : List Entry
+after_split = record { by = 1; event = split_event } ∷ chosen
+
+either_full : (i : ℕ) (l : Line) → numbered (input_line 1 either ∷ []) i ≡ Some l → is_empty l.stated.clause ≡ true → ⊥
+either_full zero l h e = cc
+either_full (suc zero) l h e = let r : input_line 1 either ≡ l = cc in let bad : false ≡ true = ap (λ x. is_empty x.stated.clause) r ∙ e in cc
+either_full (suc (suc i)) l h e = cc
+
+split_concluded : (k : ℕ) (l : Line) → slice_get (left_line ∷ right_line ∷ negated_line ∷ []) k ≡ Some l → IsConclusion t.input (stated (ledger t chosen)) l
+split_concluded zero l h = let r : left_line ≡ l = cc in subst (IsConclusion t.input (stated (ledger t chosen))) r (refl, omega arith)
+split_concluded (suc zero) l h = let r : right_line ≡ l = cc in subst (IsConclusion t.input (stated (ledger t chosen))) r (refl, omega arith)
+split_concluded (suc (suc zero)) l h = let r : negated_line ≡ l = cc in subst (IsConclusion t.input (stated (ledger t chosen))) r (refl, omega arith)
+split_concluded (suc (suc (suc k))) l h = cc
+
+pub example_split : IsLegal t chosen 1 split_event
+example_split = record {
+  some = omega arith;
+  worker = omega arith;
+  unended = λ go. refl;
+  asked = record {
+    asked = record {
+      holds = record { claims = refl; leaf = refl; live = λ dead. either_full dead.0 dead.1.line dead.1.found dead.1.empty };
+      clause = 1;
+      chosen = refl;
+      kept = refl;
+      split = input_line 1 either;
+      found = refl;
+      parts = parts;
+      parted = refl;
+      free = omega arith;
+      steps = refl;
+      concluded = split_concluded;
+      typed = refl;
+      settled = settled_root t chosen refl;
+    };
+    few = omega arith;
+  };
+}
+
+-- the left part is listed at node 1, the right part and the negation at node 2, each clause of the parts there alone
+pub example_listed : (listed t after_split 1 1 ≡ true) × (listed t after_split 1 2 ≡ true) × (listed t after_split 1 3 ≡ false) × (listed t after_split 2 2 ≡ false) × (listed t after_split 2 4 ≡ true) × (listed t after_split 0 2 ≡ false)
+example_listed = (refl, refl, refl, refl, refl, refl)
+
+pub example_tree : (leaves after_split ≡ 1 ∷ 2 ∷ []) × (nodes after_split ≡ 3) × (owner after_split (side_of 1 2 ∷ []) 2 ≡ 2) × (owner after_split (side_of 1 2 ∷ []) 1 ≡ 0)
+example_tree = (refl, refl, refl, refl)
