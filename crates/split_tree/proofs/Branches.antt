@@ -1,7 +1,6 @@
 -- How the nodes hang is what the journal says, and a path goes on at the parent.
-use Rattle.std.proofs.Common.{◌≡◌, ℕ, zero, suc, ◌+◌, ◌-◌, ◌<◌, ◌≤◌, inl, inr, Bool, true, false, cond, ◌||◌, eqb, leb, List, [], ◌∷◌, ◌++◌, length, Option, Some, None, refl, sym, ◌∙◌, ap, arith, eq-eqb}
+use Rattle.std.proofs.Common.{◌≡◌, ℕ, zero, suc, ◌+◌, ◌-◌, ◌<◌, ◌≤◌, inl, inr, Bool, true, false, cond, ◌||◌, eqb, List, [], ◌∷◌, ◌++◌, length, Option, Some, None, refl, sym, ◌∙◌, ap, arith, eq-eqb}
 use Rattle.std.proofs.lemmas.Bool.{eqb-true, ne_eqb, cases_lt, cond-true, cond-false}
-use Rattle.std.proofs.lemmas.Bool.Decides.{nat_tests}
 use Rattle.std.specs.List.{slice_get}
 use Rattle.split_tree.specs.declared.event.Entry.{Entry}
 use Rattle.split_tree.specs.declared.event.Event.{Event}
@@ -13,7 +12,7 @@ use Rattle.split_tree.specs.Legal.{IsAsked, IsLegalJournal}
 use Rattle.split_tree.specs.Caches.{branches, branches_by}
 use Rattle.split_tree.proofs.Lists.{get_left, get_right}
 use Rattle.split_tree.proofs.Places.{node_there}
-use Rattle.split_tree.proofs.Climb.{or_absorb, on_path-self, stem_old, nodes_some}
+use Rattle.split_tree.proofs.Climb.{or_absorb, on_path-self, stem_old, nodes_some, stem_high}
 use Rattle.split_tree.proofs.Past.{length-branches}
 
 branch_old : (ev : Event) (count m : ℕ) (o : Option Branch) → m < count → branch_by ev count m o ≡ o
@@ -88,9 +87,6 @@ climbs_old past e m there c =
           ∙ (or_twice (eqb n m) (on_path past p n) (eqb n p) (λ h. ap (λ x. on_path past p x) (eqb-true n p h) ∙ on_path-self past p)
           ∙ pp));
     }
-
-stem_high : (node count m : ℕ) → count ≤ m → cond (leb count m) node m ≡ node
-stem_high node count m h = grind (arith, nat_tests)
 
 parent_new : (node split count m : ℕ) (o : Option Branch) → count ≤ m → m < count + 2 → (b : Branch) × (cond (eqb m count) (Some (branch_to node split 1)) (cond (eqb m (count + 1)) (Some (branch_to node split 2)) o) ≡ Some b) × (b.parent ≡ node)
 parent_new node split count m o high there =

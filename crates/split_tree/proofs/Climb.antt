@@ -14,12 +14,19 @@ pub or_absorb : (x y : Bool) → (x ≡ true → y ≡ true) → (x || y) ≡ y
 or_absorb true y h = sym (h refl)
 or_absorb false y h = refl
 
+pub or_no : (x : Bool) → (x || false) ≡ x
+or_no true = refl
+or_no false = refl
+
 pub on_path-self : (past : List Entry) (m : ℕ) → on_path past m m ≡ true
 on_path-self [] m = eq-eqb m m refl
 on_path-self (e ∷ past) m = or_left (eqb m m) (on_path past (stem e.event (nodes past) m) m) (eq-eqb m m refl)
 
 stem_low : (node count m : ℕ) → m < count → cond (leb count m) node m ≡ m
 stem_low node count m h = grind (arith, nat_tests)
+
+pub stem_high : (node count m : ℕ) → count ≤ m → cond (leb count m) node m ≡ node
+stem_high node count m h = grind (arith, nat_tests)
 
 pub stem_old : (ev : Event) (count m : ℕ) → m < count → stem ev count m ≡ m
 stem_old (Split node lines put_off) count m h = stem_low node count m h

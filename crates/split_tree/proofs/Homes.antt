@@ -15,9 +15,9 @@ use Rattle.split_tree.specs.Paths.{stem, on_path}
 use Rattle.split_tree.specs.Facts.{lists, listed}
 use Rattle.split_tree.specs.Legal.{IsAsked, IsLegalJournal}
 use Rattle.split_tree.specs.Caches.{homes, homes_by, at_home, spots, spots_upto}
-use Rattle.split_tree.proofs.Lists.{get_more, get_left, get_right, length-spots_upto, length-input_lines}
+use Rattle.split_tree.proofs.Lists.{get_more, get_left, get_right, length-spots_upto, length-input_lines, get_copies}
 use Rattle.split_tree.proofs.Places.{steps_more, lists_new, stem_there, publish_there, one_line, in_input}
-use Rattle.split_tree.proofs.Climb.{or_absorb, on_path_within, on_path_grow}
+use Rattle.split_tree.proofs.Climb.{or_absorb, on_path_within, on_path_grow, or_no}
 use Rattle.split_tree.proofs.Past.{length-homes}
 
 -- a listed number is one of the ledger
@@ -31,15 +31,6 @@ listed_within s (e ∷ past) legal m i h =
     ]
 
 -- ---- homes
-
-or_no : (x : Bool) → (x || false) ≡ x
-or_no true = refl
-or_no false = refl
-
-get_copies : {A : Type 0} (n k : ℕ) (x : A) → k < n → slice_get (replicate n x) k ≡ Some x
-get_copies zero k x h = absurd (omega arith)
-get_copies (suc n) zero x h = refl
-get_copies (suc n) (suc k) x h = get_copies n k x (omega arith)
 
 -- a home is a node
 abbrev pub IsHome : ℕ → Option ℕ → Type 0

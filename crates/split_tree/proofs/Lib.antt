@@ -10,5 +10,7 @@ pub mod Picks
 pub mod Retired
 pub mod Ledger
 pub mod Legals
+pub mod Positive
+pub mod Examples
 pub mod Leaves
 pub mod Lens

@@ -17,7 +17,7 @@ use Rattle.split_tree.specs.Picking.{passing, weighed}
 use Rattle.split_tree.specs.Legal.{IsAsked, IsLegalJournal}
 use Rattle.split_tree.specs.Caches.{retired, retired_by, pushed, first_node}
 use Rattle.split_tree.proofs.Places.{node_there, stem_there}
-use Rattle.split_tree.proofs.Climb.{on_path_grow}
+use Rattle.split_tree.proofs.Climb.{on_path_grow, or_no}
 
 -- the clause is i, and the node is on the path
 abbrev pub hits : (ℕ → Bool) → ℕ → Retired → Bool
@@ -54,10 +54,6 @@ retired_low s (e ∷ past) legal = low_push (nodes past) (nodes past + nodes_of 
 any_of : (Retired → Bool) → Option Retired → Bool
 any_of p None = false
 any_of p (Some r) = p r
-
-or_no : (x : Bool) → (x || false) ≡ x
-or_no true = refl
-or_no false = refl
 
 pushed_any : (p : Retired → Bool) (rs : List Retired) (o : Option Retired) → list_any p (pushed rs o) ≡ (list_any p rs || any_of p o)
 unfolding any_of

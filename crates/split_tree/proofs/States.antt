@@ -1,7 +1,6 @@
 -- What is kept of each node and of each worker is what the journal says.
-use Rattle.std.proofs.Common.{◌≡◌, ℕ, zero, suc, ◌+◌, ◌-◌, ◌<◌, ◌≤◌, ◌^◌, inl, inr, Bool, true, false, cond, not, ◌&&◌, ◌||◌, eqb, leb, List, [], ◌∷◌, ◌++◌, length, replicate, Option, Some, None, refl, sym, ◌∙◌, ap, arith, eq-eqb, length-append}
+use Rattle.std.proofs.Common.{◌≡◌, ℕ, zero, suc, ◌+◌, ◌-◌, ◌<◌, ◌≤◌, ◌^◌, inl, inr, Bool, true, false, cond, not, ◌&&◌, ◌||◌, eqb, List, [], ◌∷◌, ◌++◌, length, Option, Some, None, refl, sym, ◌∙◌, ap, arith, eq-eqb, length-append}
 use Rattle.std.proofs.lemmas.Bool.{eqb-true, ne_eqb, cases_Bool, cases_lt, cond-true, cond-false, and_from, false_from_ne_true}
-use Rattle.std.proofs.lemmas.Bool.Decides.{nat_tests}
 use Rattle.std.proofs.lemmas.List.{length-replicate}
 use Rattle.std.proofs.lemmas.Option.{slice_get_within}
 use Rattle.std.specs.List.{slice_get}
@@ -18,9 +17,9 @@ use Rattle.split_tree.specs.Facts.{chosen, chosen_by, claimed, claimed_by, has_s
 use Rattle.split_tree.specs.Picking.{choices}
 use Rattle.split_tree.specs.Legal.{IsAsked, IsLegalJournal}
 use Rattle.split_tree.specs.Caches.{states, states_by, state_by, new_state, child_of, HasFewChoices, seats, seat_by}
-use Rattle.split_tree.proofs.Lists.{get_left, get_right, length-changed_at, changed_at-here, changed_at-elsewhere}
+use Rattle.split_tree.proofs.Lists.{get_left, get_right, length-changed_at, changed_at-here, changed_at-elsewhere, get_copies}
 use Rattle.split_tree.proofs.Places.{claimed_within, node_there}
-use Rattle.split_tree.proofs.Climb.{on_path-self, stem_old, leaf_path}
+use Rattle.split_tree.proofs.Climb.{on_path-self, stem_old, leaf_path, stem_high}
 use Rattle.split_tree.proofs.Bounds.{choices_bound, rounds_bound}
 
 -- ---- nodes
@@ -133,9 +132,6 @@ get_two x zero h = refl
 get_two x (suc zero) h = refl
 get_two x (suc (suc k)) h = absurd (omega arith)
 
-stem_high : (node count m : ℕ) → count ≤ m → cond (leb count m) node m ≡ node
-stem_high node count m h = grind (arith, nat_tests)
-
 -- a node that a Split makes
 state_new : (s : Setting) (past : List Entry) → IsLegalJournal s past → (w : ℕ) (ev : Event) (m : ℕ) → IsAsked s past w ev → nodes past ≤ m → m < nodes past + nodes_of ev
     → ((n : ℕ) → n < nodes past → slice_get (states past) n ≡ Some (state_of past n))
@@ -191,11 +187,6 @@ seat_of past w = record { claimed = claimed past w; stopped = has_stopped past w
 
 same_seat : (a b : Option ℕ) (c d : Bool) → a ≡ b → c ≡ d → (let x : Seat = record { claimed = a; stopped = c } in x) ≡ (let y : Seat = record { claimed = b; stopped = d } in y)
 same_seat a b c d p q = λ i. record { claimed = p i; stopped = q i }
-
-get_copies : {A : Type 0} (n k : ℕ) (x : A) → k < n → slice_get (replicate n x) k ≡ Some x
-get_copies zero k x h = absurd (omega arith)
-get_copies (suc n) zero x h = refl
-get_copies (suc n) (suc k) x h = get_copies n k x (omega arith)
 
 -- what is kept of a worker
 pub seat_at : (s : Setting) (past : List Entry) → IsLegalJournal s past → (w : ℕ) → 1 ≤ w → w ≤ s.workers → slice_get (seats s.workers past) (w - 1) ≡ Some (seat_of past w)

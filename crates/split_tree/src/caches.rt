@@ -123,7 +123,8 @@ pub fn add_spots(spots: &mut Vec<Spot>, event: usize, count: usize)
     }
 }
 
-fn is_empty(clause: &Clause) -> bool
+/// Whether no part of the clause has an atom.
+pub fn is_empty(clause: &Clause) -> bool
     ensures { result ≡ is_empty clause.now }
 {
     clause.is_empty()

@@ -2,7 +2,7 @@
 mod reading;
 
 ghost use Rattle.std.specs.Prelude.{◌≡◌, ◌-◌, ◌<◌, ◌≤◌, ◌^◌, ◌&&◌, not, if◌then◌else◌, IfOk, OnOk, OnErr, [], ◌∷◌, length, replicate, None, Some};
-ghost use Rattle.spl_terms.specs.Clauses.{is_empty, clause_symbols};
+ghost use Rattle.spl_terms.specs.Clauses.{clause_symbols};
 ghost use Rattle.proof_steps.specs.Checked.{AreConclusions};
 ghost use Rattle.split_tree.specs.Journal.{input_line, input_lines, lines_of, ledger, nodes};
 ghost use Rattle.split_tree.specs.Facts.{cost_of, chosen};
@@ -13,7 +13,7 @@ ghost use Rattle.split_tree.specs.Legal.{IsLegal, IsLegalJournal, IsSettled};
 use crate::branch::Branch;
 use crate::caches::{
     NodeState, Retired, Seat, Spot, Tally, add_branches, add_copies, add_empties, add_homes,
-    add_retired, add_spots, add_weights, note_firsts, note_leaves, note_node, note_seat,
+    add_retired, add_spots, add_weights, is_empty, note_firsts, note_leaves, note_node, note_seat,
 };
 use crate::event::{Entry, Event, Limits, subject};
 use dep_sets::Deps;
@@ -121,12 +121,6 @@ fn copies(alloc: Global, input: &[Clause]) -> Result<Items<Clause>, AllocError>
         clauses.push(clause.copy(alloc)?)?;
     }
     Ok(clauses)
-}
-
-fn is_empty(clause: &Clause) -> bool
-    ensures { result ≡ is_empty clause.now }
-{
-    clause.is_empty()
 }
 
 fn has_empty(input: &[Clause]) -> bool

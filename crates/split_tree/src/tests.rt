@@ -1,4 +1,5 @@
-ghost use Rattle.std.specs.Prelude.{◌≡◌, ◌≤◌, None};
+ghost use Rattle.std.specs.Prelude.{◌≡◌, ◌≤◌, [], ◌∷◌, IfOk, IfSome, None};
+ghost use Rattle.split_tree.specs.declared.event.Event.TheVariants.{Claim, Choose};
 ghost use Rattle.std.specs.Bool.{OnTrue};
 ghost use Rattle.split_tree.specs.Journal.{nodes};
 ghost use Rattle.split_tree.specs.Ending.{reason};
@@ -49,14 +50,16 @@ fn may_go_on(table: &Table, by: u32) -> bool
 }
 
 /// The worker claims the next node, if it may.
-fn claim(table: &mut Table, by: u32) -> Result<bool, AllocError> {
+fn claim(table: &mut Table, by: u32) -> Result<bool, AllocError>
+    ensures { IfOk result (λ done. OnTrue done (table.new.past ≡ record { by = by; event = Claim 0 } ∷ table.old.past)) }
+{
     table.reserve(1, 1)?;
-    if !may_go_on(table, by) {
+    if !may_go_on(table, by) || table.held(by).is_some() {
         return Ok(false);
     }
-    match (table.held(by), table.claim_next()) {
-        (None, Some(node)) => {
-            table.apply(by, Event::Claim { node });
+    match table.claim_next() {
+        Some(0) => {
+            table.apply(by, Event::Claim { node: 0 });
             Ok(true)
         }
         _ => Ok(false),
@@ -64,16 +67,18 @@ fn claim(table: &mut Table, by: u32) -> Result<bool, AllocError> {
 }
 
 /// The worker chooses what is picked at its node, if it may.
-fn choose(table: &mut Table, by: u32) -> Result<bool, AllocError> {
+fn choose(table: &mut Table, by: u32) -> Result<Option<u32>, AllocError>
+    ensures { IfOk result (λ made. IfSome made (λ clause. table.new.past ≡ record { by = by; event = Choose 0 clause None } ∷ table.old.past)) }
+{
     table.reserve(1, 1)?;
     if !may_go_on(table, by) || table.rounds() >= table.limits().rounds {
-        return Ok(false);
+        return Ok(None);
     }
     let Some(node) = table.held(by) else {
-        return Ok(false);
+        return Ok(None);
     };
     if node != 0 {
-        return Ok(false);
+        return Ok(None);
     }
     match (table.chosen(node), table.pick(node)) {
         (None, Some(clause)) => {
@@ -86,10 +91,35 @@ fn choose(table: &mut Table, by: u32) -> Result<bool, AllocError> {
                     selected,
                 },
             );
-            Ok(true)
+            Ok(Some(clause))
         }
-        _ => Ok(false),
+        _ => Ok(None),
     }
+}
+
+/// The worker 1 works off the clause that it has just chosen as the first one, if that has no negated atoms.
+fn activate(table: &mut Table, clause: u32) -> Result<bool, AllocError>
+    requires { table.old.past ≡ record { by = 1; event = Choose 0 clause None } ∷ record { by = 1; event = Claim 0 } ∷ [] }
+{
+    table.reserve(1, 0)?;
+    if !may_go_on(table, 1) || clause < 1 || table.steps() < clause {
+        return Ok(false);
+    }
+    let chosen = &table.line(clause).stated.clause;
+    if !chosen.constraint.is_empty() || !chosen.antecedent.is_empty() {
+        return Ok(false);
+    }
+    if table.limits().splits > 0 {
+        return Ok(false);
+    }
+    let Some(node) = table.held(1) else {
+        return Ok(false);
+    };
+    if node != 0 {
+        return Ok(false);
+    }
+    table.apply(1, Event::Activate { node });
+    Ok(true)
 }
 
 /// The worker ends its case, if nothing is left to choose there.
@@ -204,11 +234,11 @@ fn chooses_a_smallest_clause(rt: HostRuntime) -> Result<(), Fail> {
         clause(alloc, 7, 1)?,
     ];
     let mut table = Table::start(alloc, &input, few(1), 2)?;
-    assert!(rt; !choose(&mut table, 1)?);
+    assert!(rt; choose(&mut table, 1)?.is_none());
     assert_eq!(rt; table.claim_next(), Some(0));
     assert!(rt; claim(&mut table, 1)?);
     assert!(rt; !saturate(&mut table, 1)?);
-    assert!(rt; choose(&mut table, 1)?);
+    assert_eq!(rt; choose(&mut table, 1)?, Some(2));
     assert!(rt; has_chosen_the_second(&table));
     assert!(rt; !give_up(&mut table, 1)?);
     assert_eq!(rt; table.reason(), None);
@@ -220,12 +250,31 @@ fn chooses_a_smallest_clause(rt: HostRuntime) -> Result<(), Fail> {
 }
 
 #[test]
+fn a_clause_without_negated_atoms_is_worked_off(rt: HostRuntime) -> Result<(), Fail> {
+    let alloc = rt.alloc();
+    let input = [clause(alloc, 0, 2)?];
+    let mut table = Table::start(alloc, &input, few(9), 1)?;
+    if !claim(&mut table, 1)? {
+        return Err(Fail::new("not claimed"));
+    }
+    let Some(clause) = choose(&mut table, 1)? else {
+        return Err(Fail::new("nothing chosen"));
+    };
+    assert_eq!(rt; clause, 1);
+    assert!(rt; activate(&mut table, clause)?);
+    assert!(rt; saturate(&mut table, 1)?);
+    assert_eq!(rt; table.events(), 4);
+    assert_eq!(rt; table.reason(), Some(End::Completed { node: 0 }));
+    Ok(())
+}
+
+#[test]
 fn gives_up_when_the_rounds_are_spent(rt: HostRuntime) -> Result<(), Fail> {
     let alloc = rt.alloc();
     let input = [clause(alloc, 0, 1)?];
     let mut table = Table::start(alloc, &input, few(0), 1)?;
     assert!(rt; claim(&mut table, 1)?);
-    assert!(rt; !choose(&mut table, 1)?);
+    assert!(rt; choose(&mut table, 1)?.is_none());
     assert!(rt; give_up(&mut table, 1)?);
     assert_eq!(rt; table.reason(), Some(End::Rounds));
     Ok(())
