@@ -1,0 +1,6 @@
+pub mod Renumbered
+pub mod Moved
+pub mod Parents
+pub mod MarkLemmas
+pub mod Counts
+pub mod Extracts
