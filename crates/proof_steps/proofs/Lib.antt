@@ -1,4 +1,6 @@
 pub mod Steps
+pub mod Marks
+pub mod CaseLemmas
 pub mod Sound
 pub mod Cut
 pub mod Examples

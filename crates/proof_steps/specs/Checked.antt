@@ -7,7 +7,7 @@ use Rattle.spl_terms.specs.Clauses.{clause_symbols, IsEmpty}
 use Rattle.spl_truth.specs.Truth.{Follows}
 use Rattle.proof_steps.specs.declared.step.Statement.{Statement}
 use Rattle.proof_steps.specs.declared.step.Line.{Line}
-use Rattle.proof_steps.specs.Steps.{numbered, resolution, from_two, of_two, is_resolution_rule, conclude}
+use Rattle.proof_steps.specs.Steps.{numbered, resolution, from_two, of_two, is_resolution_rule, is_covered_rule, conclude}
 
 abbrev pub stated : List Line → List Statement
 stated = map (λ l. l.stated)
@@ -23,6 +23,10 @@ AreByResolution lines = IsTrue (list_all (λ l. is_resolution_rule l.step.rule) 
 -- the line states what its step concludes, in at most 4,096 symbols
 abbrev pub IsConclusion : List Clause → List Statement → Line → Type 0
 IsConclusion input earlier l = (conclude input earlier l.step ≡ Some l.stated) × (clause_symbols l.stated.clause ≤ 4096)
+
+-- and its step is by a rule that is not about equations
+abbrev pub IsCovered : List Clause → List Statement → Line → Type 0
+IsCovered input earlier l = IsConclusion input earlier l × (is_covered_rule l.step.rule ≡ true)
 
 -- and its step is by a rule of resolution
 abbrev pub IsResolved : List Clause → List Statement → Line → Type 0

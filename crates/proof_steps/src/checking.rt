@@ -1,9 +1,10 @@
 ghost use Rattle.std.specs.Prelude.{◌≡◌, ◌↔◌, IsTrue, IfOk};
 ghost use Rattle.spl_truth.specs.Truth.{Refuted};
-ghost use Rattle.proof_steps.specs.Checked.{stated, AreByResolution, IsResolved, AreConclusions, IsContradiction, EndsEmpty, AllStand, Checked};
+ghost use Rattle.proof_steps.specs.Steps.{is_resolution_rule};
+ghost use Rattle.proof_steps.specs.Checked.{stated, AreByResolution, IsCovered, IsResolved, AreConclusions, IsContradiction, EndsEmpty, AllStand, Checked};
 
 use crate::concluding::conclude_from_lines;
-use crate::step::{Line, Statement};
+use crate::step::{Line, Rule, Statement};
 use dep_sets::{Assumption, Deps};
 use spl_terms::{Clause, same_clause};
 use std::alloc::{AllocError, Global};
@@ -34,8 +35,33 @@ fn same_statement(a: &Statement, b: &Statement) -> bool
     same_clause(&a.clause, &b.clause) && same_deps(&a.deps, &b.deps)
 }
 
-/// Whether the line states what its step concludes from the earlier ones, by a rule of resolution.
+/// Whether the line states what its step concludes from the earlier ones, by a rule that is not about equations.
 fn is_conclusion(
+    alloc: Global,
+    input: &[Clause],
+    earlier: &[Line],
+    line: &Line,
+) -> Result<bool, AllocError>
+    ensures { IfOk result (λ yes. IsTrue yes ↔ IsCovered input.now (stated earlier.now) line.now) }
+{
+    match conclude_from_lines(alloc, &line.step, input, earlier)? {
+        Some(made) => Ok(same_statement(&made, &line.stated)),
+        None => Ok(false),
+    }
+}
+
+fn is_resolution_rule(rule: &Rule) -> bool
+    ensures { result ≡ is_resolution_rule rule.now }
+{
+    matches!(
+        rule,
+        Rule::Input { .. } | Rule::Resolve { .. } | Rule::Factor { .. }
+    )
+}
+
+/// Whether the line states what its step concludes from the earlier ones, by a rule of resolution.
+#[tactic(auto, using(crate::proofs::Steps::resolution_covered))]
+fn is_resolved(
     alloc: Global,
     input: &[Clause],
     earlier: &[Line],
@@ -43,10 +69,10 @@ fn is_conclusion(
 ) -> Result<bool, AllocError>
     ensures { IfOk result (λ yes. IsTrue yes ↔ IsResolved input.now (stated earlier.now) line.now) }
 {
-    match conclude_from_lines(alloc, &line.step, input, earlier)? {
-        Some(made) => Ok(same_statement(&made, &line.stated)),
-        None => Ok(false),
+    if !is_resolution_rule(&line.step.rule) {
+        return Ok(false);
     }
+    is_conclusion(alloc, input, earlier, line)
 }
 
 fn is_contradiction(stated: &Statement) -> bool
@@ -79,7 +105,7 @@ pub fn check(alloc: Global, input: &[Clause], lines: &[Line]) -> Result<bool, Al
     ensures sound { IfOk result (λ yes. IsTrue yes → Refuted input.now) }
 {
     for (k, line) in lines.iter().enumerate() {
-        if !is_conclusion(alloc, input, &lines[..k], line)? {
+        if !is_resolved(alloc, input, &lines[..k], line)? {
             return Ok(false);
         }
     }

@@ -15,7 +15,7 @@ returns-then-not-branch-clause-exact c =
     let line = c.index-lines-k.result in
     let there : slice_get lines k ≡ Some line = get_is lines k line c.loop-k-test.true c.index-lines-k.is in (
       λ yes. absurd (false≢true yes),
-      λ is. sym c.if-not-branch.true ∙ c.in_ok-is_conclusion.ensures.1 (is.0.each k line there, by_rule lines k line is.1 there),
+      λ is. sym c.if-not-branch.true ∙ c.in_ok-is_resolved.ensures.1 (is.0.each k line there, by_rule lines k line is.1 there),
     )
 
 pub loop-k-preserved : goal.loop-k-preserved
@@ -23,7 +23,7 @@ loop-k-preserved c =
     let lines = c.args.lines.now in
     let Fine : ℕ → Type 0 = λ j. (m : Line) → slice_get lines j ≡ Some m → IsResolved c.args.input.now (stated (take j lines)) m in
     let line = c.index-lines-k.result in
-    let here : Fine c.loop-k.k = λ m e. subst (IsResolved c.args.input.now (stated (take c.loop-k.k lines))) (line_is lines c.loop-k.k m line e c.index-lines-k.is) (c.in_ok-is_conclusion.ensures.0 c.if-not-branch.false) in
+    let here : Fine c.loop-k.k = λ m e. subst (IsResolved c.args.input.now (stated (take c.loop-k.k lines))) (line_is lines c.loop-k.k m line e c.index-lines-k.is) (c.in_ok-is_resolved.ensures.0 c.if-not-branch.false) in
     λ j m h e. below_more Fine c.loop-k.k (λ j h m e. c.loop-k.invariant j m h e) here j h m e
 
 each : (c : After-ends_empty) → (k : ℕ) (l : Line) → slice_get c.args.lines.now k ≡ Some l → IsResolved c.args.input.now (stated (take k c.args.lines.now)) l

@@ -2,7 +2,7 @@ use Rattle.std.proofs.Common.{◌∙◌, [], None, refl, sym, subst}
 use Rattle.std.specs.Prelude.{Ok}
 use Rattle.proof_steps.specs.Steps.{resolution, from_two, Sized}
 use Rattle.proof_steps.proofs.Steps.{from_ground, none_some}
-use Rattle.proof_steps.proofs.resolving.resolve_ground.Goals as goal
+use Rattle.proof_steps.proofs.resolving.resolve_statements.Goals as goal
 
 pub returns-then-not-applies : goal.returns-then-not-applies
 returns-then-not-applies c =
