@@ -4,3 +4,5 @@ pub mod CaseLemmas
 pub mod Sound
 pub mod Cut
 pub mod Examples
+pub mod Closure
+pub mod Joint
