@@ -138,19 +138,8 @@ module _ (n : ℕ) (atoms : List Atom) (g k : ℕ → Term) where
 
 -- ---- the same of the parts of a clause
 
-marked-append : (bs : List Bool) (xs ys : List Atom) → marked bs (xs ++ ys) ≡ marked (take (length xs) bs) xs ++ marked (drop (length xs) bs) ys
+pub marked-append : (bs : List Bool) (xs ys : List Atom) → marked bs (xs ++ ys) ≡ marked (take (length xs) bs) xs ++ marked (drop (length xs) bs) ys
 marked-append bs [] ys = refl
 marked-append [] (x ∷ xs) ys = refl
 marked-append (true ∷ bs) (x ∷ xs) ys = ap (λ l. x ∷ l) (marked-append bs xs ys)
 marked-append (false ∷ bs) (x ∷ xs) ys = marked-append bs xs ys
-
-variables-append : (xs ys : List Atom) → flat_map atom_variables (xs ++ ys) ≡ flat_map atom_variables xs ++ flat_map atom_variables ys
-variables-append [] ys = refl
-variables-append (x ∷ xs) ys = ap (λ l. atom_variables x ++ l) (variables-append xs ys) ∙ sym (append_assoc (atom_variables x) (flat_map atom_variables xs) (flat_map atom_variables ys))
-
-all_parts : (q : ℕ → Bool) (bs : List Bool) (xs ys : List Atom) → list_all q (flat_map atom_variables (marked bs (xs ++ ys))) ≡ true →
-    (list_all q (flat_map atom_variables (marked (take (length xs) bs) xs)) ≡ true) × (list_all q (flat_map atom_variables (marked (drop (length xs) bs) ys)) ≡ true)
-all_parts q bs xs ys e =
-    let front = marked (take (length xs) bs) xs in
-    let rest = marked (drop (length xs) bs) ys in
-    and_parts _ _ (sym (ap (λ l. list_all q (flat_map atom_variables l)) (marked-append bs xs ys) ∙ ap (list_all q) (variables-append front rest) ∙ list_all-append q (flat_map atom_variables front) (flat_map atom_variables rest)) ∙ e)

@@ -6,3 +6,4 @@ pub mod Cut
 pub mod Examples
 pub mod Closure
 pub mod Joint
+pub mod PartTruths
