@@ -86,7 +86,7 @@ no_atoms-true : (atoms : List Atom) → no_atoms atoms ≡ true → atoms ≡ []
 no_atoms-true [] e = refl
 no_atoms-true (a ∷ atoms) e = absurd (cc)
 
-is_empty-true : (c : Clause) → is_empty c ≡ true → IsEmpty c
+pub is_empty-true : (c : Clause) → is_empty c ≡ true → IsEmpty c
 is_empty-true c e =
     let p = and_parts (no_atoms c.constraint && no_atoms c.antecedent) (no_atoms c.succedent) e in
     let q = and_parts (no_atoms c.constraint) (no_atoms c.antecedent) p.0 in

@@ -41,7 +41,7 @@ module _ (f h : ℕ → Term) (q : ℕ → Bool) (same : (v : ℕ) → q v ≡ t
       let y = agree_terms ts p.1 in
       λ i. x i ∷ y i
 
-  agree_atom : (a : Atom) → list_all q (atom_variables a) ≡ true → replace_in_atom f a ≡ replace_in_atom h a
+  pub agree_atom : (a : Atom) → list_all q (atom_variables a) ≡ true → replace_in_atom f a ≡ replace_in_atom h a
   agree_atom (Holds p ts) e = ap (Holds p) (agree_terms ts e)
   agree_atom (Equal s t) e =
       let p = and_parts _ _ (sym (list_all-append q (term_variables s) (term_variables t ++ [])) ∙ e) in
@@ -76,7 +76,7 @@ marked_are (false ∷ bs) (a ∷ atoms) = marked_are bs atoms
 self : (v : ℕ) → (v == v) ≡ true
 self v = eq-eqb v v refl
 
-or_true : (b c : Bool) → c ≡ true → (b || c) ≡ true
+pub or_true : (b c : Bool) → c ≡ true → (b || c) ≡ true
 or_true true c e = refl
 or_true false c e = e
 

@@ -11,7 +11,7 @@ use Rattle.spl_truth.proofs.Replacing.{at_each}
 use Rattle.proof_steps.specs.Parts.{marked, component, part_by, variable_lists, constraint_marks, antecedent_marks, succedent_marks}
 use Rattle.proof_steps.specs.Marking.{marked_variables}
 use Rattle.proof_steps.proofs.Marks.{length-component, length-atoms}
-use Rattle.proof_steps.proofs.Sound.{negative, or_four}
+use Rattle.proof_steps.proofs.Resolution.{negative, or_four}
 use Rattle.proof_steps.proofs.Joint.{both, joint_left, joint_right, marked-append}
 
 -- ---- the marked atoms, part by part

@@ -14,7 +14,7 @@ use Rattle.spl_terms.specs.Clauses.{part_of, clause_symbols, atoms_of, atom_vari
 use Rattle.spl_terms.proofs.TermLemmas.{Each, term_induction}
 use Rattle.spl_terms.proofs.NumberLemmas.{term_variables-Var, term_variables-App}
 use Rattle.spl_truth.specs.Truth.{entry, apply, is_ground_atom, is_ground}
-use Rattle.spl_truth.proofs.Replacing.{and_parts, replace-Var, replace-App, ground-Var, ground-App}
+use Rattle.spl_truth.proofs.Replacing.{and_parts, and_both, replace-Var, replace-App, ground-Var, ground-App}
 use Rattle.proof_steps.specs.declared.step.Statement.{Statement}
 use Rattle.proof_steps.specs.declared.step.Rule.{Rule}
 use Rattle.proof_steps.specs.declared.step.Rule.TheVariants.{Input, Resolve, Factor, Paramodulate, Reflex, EqFactor, Assume, CaseLeft, CaseRight, CaseBoth}
@@ -83,7 +83,7 @@ same_atoms (a ∷ as') = let h = same_atom a in let k = same_atoms as' in λ i. 
 pub apply-nil : (c : Clause) → apply [] c ≡ c
 apply-nil c = let x = same_atoms c.constraint in let y = same_atoms c.antecedent in let z = same_atoms c.succedent in λ i. record { constraint = x i; antecedent = y i; succedent = z i }
 
-abbrev no_numbers : List ℕ → Bool
+abbrev pub no_numbers : List ℕ → Bool
 no_numbers [] = true
 no_numbers (v ∷ vs) = false
 
@@ -108,7 +108,7 @@ ground_terms : (ts : List Term) → list_all is_ground_term ts ≡ no_numbers (f
 ground_terms [] = refl
 ground_terms (t ∷ ts) = and_same (ground_term t) (ground_terms ts) ∙ sym (no_numbers-append (term_variables t) (flat_map term_variables ts))
 
-ground_atom : (a : Atom) → is_ground_atom a ≡ no_numbers (atom_variables a)
+pub ground_atom : (a : Atom) → is_ground_atom a ≡ no_numbers (atom_variables a)
 ground_atom (Holds p ts) = ground_terms ts
 ground_atom (Equal s t) = ground_terms (s ∷ t ∷ [])
 
@@ -254,6 +254,13 @@ pub ruleset parent_rules = (from_parents-exact, from_parents-others)
 pub resolution_covered : (rule : Rule) → is_resolution_rule rule ≡ true → is_covered_rule rule ≡ true
 resolution_covered rule e = ap (λ b. b || is_split_rule rule) e
 
+-- lines by rules of resolution are not by rules about equations
+pub resolutions_covered : (ls : List Line) → list_all (λ l. is_resolution_rule l.step.rule) ls ≡ true → list_all (λ l. is_covered_rule l.step.rule) ls ≡ true
+resolutions_covered [] e = refl
+resolutions_covered (l ∷ ls) e =
+    let both = and_parts (is_resolution_rule l.step.rule) (list_all (λ m. is_resolution_rule m.step.rule) ls) e in
+    and_both (is_covered_rule l.step.rule) (list_all (λ m. is_covered_rule m.step.rule) ls) (resolution_covered l.step.rule both.0) (resolutions_covered ls both.1)
+
 -- ---- conclusions that are compared
 
 pub some_inj : {A : Type 0} {x y : A} → Some x ≡ Some y → x ≡ y
@@ -293,9 +300,9 @@ get_is [] k d h e = absurd (omega arith)
 get_is (m ∷ ls) zero d h e = ap Some (sym e)
 get_is (m ∷ ls) (suc k) d h e = get_is ls k d (omega arith) e
 
-pub rules_all : (ls : List Line) → ((k : ℕ) (l : Line) → slice_get ls k ≡ Some l → is_resolution_rule l.step.rule ≡ true) → list_all (λ l. is_resolution_rule l.step.rule) ls ≡ true
+pub rules_all : (ls : List Line) → ((k : ℕ) (l : Line) → slice_get ls k ≡ Some l → is_covered_rule l.step.rule ≡ true) → list_all (λ l. is_covered_rule l.step.rule) ls ≡ true
 rules_all [] each = refl
-rules_all (m ∷ ls) each = ap (λ b. b && list_all (λ l. is_resolution_rule l.step.rule) ls) (each 0 m refl) ∙ rules_all ls (λ k l e. each (suc k) l e)
+rules_all (m ∷ ls) each = ap (λ b. b && list_all (λ l. is_covered_rule l.step.rule) ls) (each 0 m refl) ∙ rules_all ls (λ k l e. each (suc k) l e)
 
 -- ---- sets compared place by place
 
