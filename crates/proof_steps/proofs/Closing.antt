@@ -1,5 +1,5 @@
 -- Where a side of a split is closed, the other part follows; where both are, the empty clause does.
-use Rattle.std.proofs.Common.{◌≡◌, ◌⊎◌, inl, inr, ℕ, Bool, true, false, ◌&&◌, ◌==◌, if◌then◌else◌, List, [], ◌∷◌, Contains, Option, Some, None, option_map, refl, sym, ap, subst, ◌∙◌}
+use Rattle.std.proofs.Common.{◌≡◌, ◌⊎◌, inl, inr, ℕ, Bool, true, false, ◌&&◌, ◌==◌, if◌then◌else◌, List, [], ◌∷◌, Contains, Option, Some, None, refl, sym, subst, ◌∙◌}
 use Rattle.std.specs.List.{list_any}
 use Rattle.std.proofs.lemmas.Bool.{eqb-true}
 use Rattle.spl_terms.specs.declared.atom.Atom.{Atom}
@@ -7,7 +7,7 @@ use Rattle.spl_terms.specs.declared.clause.Clause.{Clause}
 use Rattle.spl_terms.specs.Clauses.{replace_in, IsEmpty}
 use Rattle.spl_truth.specs.Truth.{is_ground, IsGroundInstance, holds, atom_eq, FollowsAt, Follows}
 use Rattle.spl_truth.proofs.Replacing.{and_parts, constant, ground-App}
-use Rattle.proof_steps.specs.Parts.{Parted, component, variable_lists, parted_by, parts_of}
+use Rattle.proof_steps.specs.Parts.{Parted, parts_of}
 use Rattle.proof_steps.specs.Steps.{joined, assumed}
 use Rattle.proof_steps.specs.Checked.{negations, side_clauses}
 use Rattle.proof_steps.proofs.Steps.{some_inj}

@@ -1,17 +1,16 @@
 -- One instance of a clause for an instance of each of its parts.
-use Rattle.std.proofs.Common.{eq-eqb, take, drop, length, zero, suc, ◌+◌, ◌≡◌, ℕ, Bool, true, false, not, ◌||◌, ◌&&◌, ◌==◌, if◌then◌else◌, List, [], ◌∷◌, ◌++◌, map, refl, sym, ap, ◌∙◌, append_assoc, append-nil}
+use Rattle.std.proofs.Common.{eq-eqb, take, drop, length, ◌≡◌, ℕ, Bool, true, false, not, ◌||◌, ◌&&◌, ◌==◌, if◌then◌else◌, List, [], ◌∷◌, ◌++◌, map, refl, sym, ap, ◌∙◌, append_assoc}
 use Rattle.std.specs.List.{list_any, list_all, flat_map}
 use Rattle.std.proofs.lemmas.List.Folds.{list_any-append, list_all-append}
 use Rattle.spl_terms.specs.declared.term.Term.{Term, App}
 use Rattle.spl_terms.specs.declared.atom.Atom.{Atom}
-use Rattle.spl_terms.specs.declared.clause.Clause.{Clause}
 use Rattle.spl_terms.specs.declared.atom.Atom.TheVariants.{Holds, Equal}
 use Rattle.spl_terms.specs.Terms.{term_variables, replace}
-use Rattle.spl_terms.specs.Clauses.{atom_variables, atoms_of, replace_in_atom, replace_in}
+use Rattle.spl_terms.specs.Clauses.{atom_variables, replace_in_atom}
 use Rattle.spl_terms.proofs.TermLemmas.{Each, term_induction}
 use Rattle.spl_terms.proofs.NumberLemmas.{term_variables-Var, term_variables-App}
 use Rattle.spl_truth.proofs.Replacing.{and_parts, replace-Var, replace-App, at_each}
-use Rattle.proof_steps.specs.Parts.{share, marked, component, part_by, variable_lists}
+use Rattle.proof_steps.specs.Parts.{share, marked, component}
 use Rattle.proof_steps.specs.Marking.{marked_variables}
 use Rattle.proof_steps.proofs.Marks.{share-reached}
 use Rattle.proof_steps.proofs.Closure.{component_apart}

@@ -1,7 +1,6 @@
 -- Elements of lists at a place, and what options were made from.
-use Rattle.std.proofs.Common.{◌≡◌, ℕ, zero, suc, Bool, true, false, if◌then◌else◌, List, [], ◌∷◌, ◌++◌, Contains, Option, Some, None, option_map, option_and_then, refl, sym, subst, arith}
+use Rattle.std.proofs.Common.{◌≡◌, ℕ, zero, suc, Bool, true, false, if◌then◌else◌, List, [], ◌∷◌, ◌++◌, Contains, Option, Some, None, option_map, option_and_then, refl, subst, arith}
 use Rattle.std.specs.List.{slice_get, AllByRecursion}
-use Rattle.spl_terms.specs.declared.clause.Clause.{Clause}
 use Rattle.proof_steps.specs.Steps.{when, numbered, of_one, of_two, of_three}
 
 -- ---- lists

@@ -1,16 +1,16 @@
 -- A clause is as true as one of its two parts, and one instance of it has any instances of both.
-use Rattle.std.proofs.Common.{take, drop, length, ◌+◌, ◌-◌, ◌≤◌, ◌≡◌, ℕ, Bool, true, false, not, ◌||◌, List, [], ◌∷◌, ◌++◌, map, refl, sym, ap, ◌∙◌, arith, append_assoc, length-append, length-drop, length-take-le, drop-drop}
+use Rattle.std.proofs.Common.{take, drop, length, ◌+◌, ◌≤◌, ◌≡◌, ℕ, Bool, true, false, not, ◌||◌, List, [], ◌∷◌, ◌++◌, map, refl, sym, ap, ◌∙◌, arith, append_assoc, length-drop, length-take-le, drop-drop}
 use Rattle.std.specs.List.{list_any}
-use Rattle.std.proofs.lemmas.List.{take-map, drop-map, map-append}
+use Rattle.std.proofs.lemmas.List.{take-map, drop-map}
 use Rattle.spl_terms.specs.declared.term.Term.{Term}
 use Rattle.spl_terms.specs.declared.atom.Atom.{Atom}
 use Rattle.spl_terms.specs.declared.clause.Clause.{Clause}
-use Rattle.spl_terms.specs.Clauses.{atom_variables, atoms_of, replace_in_atom, replace_in}
+use Rattle.spl_terms.specs.Clauses.{atoms_of, replace_in_atom, replace_in}
 use Rattle.spl_truth.specs.Truth.{truth}
 use Rattle.spl_truth.proofs.Replacing.{at_each}
 use Rattle.proof_steps.specs.Parts.{marked, component, part_by, variable_lists, constraint_marks, antecedent_marks, succedent_marks}
 use Rattle.proof_steps.specs.Marking.{marked_variables}
-use Rattle.proof_steps.proofs.Marks.{length-component, length-atoms}
+use Rattle.proof_steps.proofs.Marks.{length-atoms}
 use Rattle.proof_steps.proofs.Resolution.{negative, or_four}
 use Rattle.proof_steps.proofs.Joint.{both, joint_left, joint_right, marked-append}
 

@@ -1,5 +1,5 @@
 -- What sets of assumptions assume: more where there are more assumptions.
-use Rattle.std.proofs.Common.{◌≡◌, ◌⊎◌, inl, inr, ℕ, zero, suc, Bool, true, false, not, ◌&&◌, ◌||◌, ◌==◌, eq-eqb, List, [], ◌∷◌, ◌++◌, Contains, Option, Some, None, option_and_then, refl, sym, ap, subst, ◌∙◌, arith}
+use Rattle.std.proofs.Common.{◌≡◌, ◌⊎◌, inl, inr, ℕ, zero, suc, Bool, true, false, not, ◌&&◌, ◌||◌, ◌==◌, eq-eqb, List, [], ◌∷◌, ◌++◌, Contains, Some, option_and_then, refl, sym, ap, subst, ◌∙◌, arith}
 use Rattle.std.specs.Option.{option_map_or}
 use Rattle.std.proofs.lemmas.List.Elements.{Contains-append_left, Contains-append_right, Contains-append_cases}
 use Rattle.spl_terms.specs.declared.clause.Clause.{Clause}
@@ -11,8 +11,8 @@ use Rattle.dep_sets.proofs.Sets.{united_contains, without_contains}
 use Rattle.proof_steps.specs.declared.step.Statement.{Statement}
 use Rattle.proof_steps.specs.declared.step.Line.{Line}
 use Rattle.proof_steps.specs.Parts.{Parted, parts_of}
-use Rattle.proof_steps.specs.Steps.{numbered, side_of, assumed}
-use Rattle.proof_steps.specs.Checked.{stated, negations, side_clauses, assumption_clauses, premises}
+use Rattle.proof_steps.specs.Steps.{numbered, side_of}
+use Rattle.proof_steps.specs.Checked.{stated, side_clauses, assumption_clauses, premises}
 use Rattle.proof_steps.proofs.Joint.{or_true}
 
 -- ---- elements

@@ -1,6 +1,6 @@
 -- What clauses in order and resolvents inherit: they follow where their premises do.
-use Rattle.std.proofs.Common.{◌≡◌, inl, ℕ, zero, suc, Bool, true, false, not, ◌||◌, List, [], ◌∷◌, ◌++◌, All, Contains, Option, Some, None, refl, sym, ap, subst, ◌∙◌}
-use Rattle.std.specs.List.{list_all, list_any, slice_get, remove}
+use Rattle.std.proofs.Common.{◌≡◌, inl, ℕ, Bool, true, false, not, ◌||◌, List, [], ◌∷◌, ◌++◌, All, Contains, Option, Some, None, refl, sym, ap, subst, ◌∙◌}
+use Rattle.std.specs.List.{list_any, slice_get, remove}
 use Rattle.std.proofs.lemmas.List.Folds.{list_all-append, list_any-append}
 use Rattle.std.proofs.lemmas.List.Elements.{All-nil, All-cons, All-append}
 use Rattle.spl_terms.specs.declared.term.Term.{Term, Var}

@@ -1,14 +1,13 @@
 -- What lines state follows from the input and from what it depends on; so a proof refutes the input.
-use Rattle.std.proofs.Common.{IsSomeAnd, ◌≡◌, ◌⊎◌, inl, inr, ℕ, zero, suc, ◌-◌, ◌<◌, ◌≤◌, Bool, true, false, not, ◌&&◌, ◌||◌, if◌then◌else◌, List, [], ◌∷◌, ◌++◌, length, take, All, Contains, Option, Some, None, option_map, option_and_then, refl, sym, ap, subst, ◌∙◌, arith, append-nil}
+use Rattle.std.proofs.Common.{IsSomeAnd, ◌≡◌, ◌⊎◌, inl, inr, ℕ, zero, suc, ◌-◌, ◌<◌, ◌≤◌, true, ◌&&◌, List, [], ◌∷◌, ◌++◌, length, take, Contains, Option, Some, None, option_map, option_and_then, refl, sym, ap, subst, ◌∙◌, arith, append-nil}
 use Rattle.std.specs.List.{list_all, list_any, slice_get, AllByRecursion}
 use Rattle.std.specs.Option.{option_map_or}
 use Rattle.std.proofs.lemmas.Bool.{false_from_ne_true, false≢true}
 use Rattle.std.proofs.lemmas.List.Elements.{Contains-append_left, Contains-append_right}
 use Rattle.spl_terms.specs.declared.term.Term.{Term}
-use Rattle.spl_terms.specs.declared.atom.Atom.{Atom}
 use Rattle.spl_terms.specs.declared.clause.Part.{Part}
 use Rattle.spl_terms.specs.declared.clause.Clause.{Clause}
-use Rattle.spl_terms.specs.Clauses.{is_same, is_empty, part_of, in_order, IsEmpty}
+use Rattle.spl_terms.specs.Clauses.{is_empty, part_of, in_order, IsEmpty}
 use Rattle.spl_truth.specs.Truth.{apply, atom_eq, Follows, Refuted}
 use Rattle.spl_truth.proofs.Replacing.{and_parts, constant, ground-App}
 use Rattle.dep_sets.specs.declared.deps.Assumption.{Assumption}
@@ -18,7 +17,7 @@ use Rattle.proof_steps.specs.declared.step.Rule.{Rule}
 use Rattle.proof_steps.specs.declared.step.Rule.TheVariants.{Input, Resolve, Factor, Paramodulate, Reflex, EqFactor, Assume, CaseLeft, CaseRight, CaseBoth}
 use Rattle.proof_steps.specs.declared.step.Line.{Line}
 use Rattle.proof_steps.specs.Parts.{Parted, parts_of}
-use Rattle.proof_steps.specs.Steps.{when, numbered, is_negative, resolvent, resolved, resolution, factored, states, from_one, from_two, side_of, assumed, closes, assumption_of, case_left, case_right, case_both, concluded, is_resolution_rule, is_split_rule, is_covered_rule}
+use Rattle.proof_steps.specs.Steps.{numbered, resolvent, resolved, resolution, factored, states, from_one, from_two, side_of, assumed, closes, assumption_of, case_left, case_right, case_both, concluded, is_covered_rule}
 use Rattle.proof_steps.specs.Checked.{stated, side_clauses, assumption_clauses, premises, AreConclusions, IsContradiction, Stands, AllStand, Checked}
 use Rattle.proof_steps.proofs.Steps.{some_inj, take_get}
 use Rattle.proof_steps.proofs.CaseLemmas.{empty_is, is_empty-true}

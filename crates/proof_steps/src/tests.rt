@@ -343,8 +343,7 @@ fn sorted<'a>(
 #[test]
 fn clauses_are_split(rt: HostRuntime) -> Result<(), Fail> {
     let alloc = rt.alloc();
-    let (x, y, z) = ([Var(0)], [Var(1)], [Var(2)]);
-    let (a, b, both) = ([Constant(0)], [Constant(1)], [Var(0), Var(1)]);
+    let (x, y) = ([Var(0)], [Var(1)]);
     assert!(rt;
         has_parts(
             alloc,
@@ -355,6 +354,13 @@ fn clauses_are_split(rt: HostRuntime) -> Result<(), Fail> {
         )?
     );
     assert!(rt; has_none(alloc, facts(&[(P, &x), (Q, &x)]))?);
+    Ok(())
+}
+
+#[test]
+fn ground_clauses_are_split(rt: HostRuntime) -> Result<(), Fail> {
+    let alloc = rt.alloc();
+    let (a, b) = ([Constant(0)], [Constant(1)]);
     assert!(rt;
         has_parts(
             alloc,
@@ -364,31 +370,47 @@ fn clauses_are_split(rt: HostRuntime) -> Result<(), Fail> {
             true
         )?
     );
-    let linked = Written {
-        constraint: &[(S, &x)],
-        antecedent: &[(R, &y)],
-        succedent: &[(P, &x), (Q, &y)],
-    };
+    assert!(rt; has_none(alloc, rule(&[(R, &a)], &[(P, &b)]))?);
+    Ok(())
+}
+
+#[test]
+fn chains_of_atoms_stay_together(rt: HostRuntime) -> Result<(), Fail> {
+    let alloc = rt.alloc();
+    let (x, y, both) = ([Var(0)], [Var(1)], [Var(0), Var(1)]);
     assert!(rt;
         has_parts(
             alloc,
-            linked,
+            Written {
+                constraint: &[(S, &x)],
+                antecedent: &[(R, &y)],
+                succedent: &[(P, &x), (Q, &y)],
+            },
             sorted(&[(S, &x)], &[(P, &x)]),
             rule(&[(R, &x)], &[(Q, &x)]),
             false
         )?
     );
+    assert!(rt; has_none(alloc, rule(&[(R, &both)], &[(P, &x), (Q, &y)]))?);
+    Ok(())
+}
+
+#[test]
+fn a_later_component_comes_first(rt: HostRuntime) -> Result<(), Fail> {
+    let alloc = rt.alloc();
+    let (x, y) = ([Var(0)], [Var(1)]);
     assert!(rt;
         has_parts(
             alloc,
-            rule(&[(R, &x)], &[(P, &y), (Q, &z), (R, &y)]),
+            rule(
+                &[(R, &x)],
+                &[(P, &[Var(1)]), (Q, &[Var(2)]), (R, &[Var(1)])]
+            ),
             facts(&[(P, &x), (R, &x)]),
             rule(&[(R, &x)], &[(Q, &y)]),
             false
         )?
     );
-    assert!(rt; has_none(alloc, rule(&[(R, &both)], &[(P, &x), (Q, &y)]))?);
-    assert!(rt; has_none(alloc, rule(&[(R, &a)], &[(P, &b)]))?);
     Ok(())
 }
 
@@ -530,5 +552,76 @@ fn closed_sides_are_joined(rt: HostRuntime) -> Result<(), Fail> {
     assert!(rt; is_refused(alloc, Rule::CaseRight, &[1, 2])?);
     assert!(rt; is_refused(alloc, Rule::CaseBoth, &[1, 3, 2])?);
     assert!(rt; is_refused(alloc, Rule::CaseBoth, &[1, 2])?);
+    Ok(())
+}
+
+// ---- proofs by cases
+
+/// P(a) or Q(a), and neither.
+fn neither(alloc: Global) -> Result<Vec<Clause>, AllocError> {
+    let a = [Constant(0)];
+    let mut input = Vec::with_capacity(alloc, 3)?;
+    input.push(clause_of(alloc, facts(&[(P, &a), (Q, &a)]))?)?;
+    input.push(clause_of(alloc, rule(&[(P, &a)], &[]))?)?;
+    input.push(clause_of(alloc, rule(&[(Q, &a)], &[]))?)?;
+    Ok(input)
+}
+
+/// Adds the line of this step, with what it concludes, if anything.
+fn add(
+    alloc: Global,
+    input: &[Clause],
+    lines: &mut Vec<Line>,
+    rule: Rule,
+    parents: &[u32],
+) -> Result<(), AllocError> {
+    let step = Step {
+        rule,
+        parents: Items::from_slice(alloc, parents)?,
+    };
+    if let Some(stated) = conclude_from_lines(alloc, &step, input, lines.as_slice())? {
+        lines.push(Line { step, stated })?;
+    }
+    Ok(())
+}
+
+fn resolve_first(alloc: Global) -> Rule {
+    Rule::Resolve {
+        i: 0,
+        part: Part::Antecedent,
+        j: 0,
+        s: no_terms(alloc),
+        t: no_terms(alloc),
+    }
+}
+
+/// Both sides of the first clause's split, closed.
+fn closed_sides(alloc: Global, input: &[Clause]) -> Result<Vec<Line>, AllocError> {
+    let mut lines = Vec::with_capacity(alloc, 8)?;
+    for no in 1..4 {
+        add(alloc, input, &mut lines, Rule::Input { no }, &[])?;
+    }
+    add(alloc, input, &mut lines, assume(1, None), &[1])?;
+    add(alloc, input, &mut lines, resolve_first(alloc), &[4, 2])?;
+    add(alloc, input, &mut lines, assume(2, None), &[1])?;
+    add(alloc, input, &mut lines, resolve_first(alloc), &[6, 3])?;
+    Ok(lines)
+}
+
+#[test]
+fn a_proof_by_cases_is_checked(rt: HostRuntime) -> Result<(), Fail> {
+    let alloc = rt.alloc();
+    let input = neither(alloc)?;
+    let mut lines = closed_sides(alloc, input.as_slice())?;
+    assert!(rt; lines.len() == 7);
+    assert!(rt; !check(alloc, input.as_slice(), lines.as_slice())?);
+    add(
+        alloc,
+        input.as_slice(),
+        &mut lines,
+        Rule::CaseBoth,
+        &[1, 5, 7],
+    )?;
+    assert!(rt; check(alloc, input.as_slice(), lines.as_slice())?);
     Ok(())
 }
