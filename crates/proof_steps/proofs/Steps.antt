@@ -23,7 +23,7 @@ use Rattle.dep_sets.specs.declared.deps.Assumption.{Assumption}
 use Rattle.dep_sets.specs.Assumptions.{united}
 use Rattle.proof_steps.specs.Steps.{when, numbered, fits, both_same, may_resolve, resolvent, resolved, resolution, states, from_two, is_negative, concluded, is_resolution_rule, is_split_rule, is_covered_rule, within, Sized}
 use Rattle.proof_steps.specs.Parents.{parent_at, from_parents}
-use Rattle.proof_steps.specs.Checked.{stated}
+use Rattle.proof_steps.specs.Checked.{stated, AreByResolution, AreByCoveredRules}
 
 -- ---- looking lines up
 
@@ -255,7 +255,7 @@ pub resolution_covered : (rule : Rule) → is_resolution_rule rule ≡ true → 
 resolution_covered rule e = ap (λ b. b || is_split_rule rule) e
 
 -- lines by rules of resolution are not by rules about equations
-pub resolutions_covered : (ls : List Line) → list_all (λ l. is_resolution_rule l.step.rule) ls ≡ true → list_all (λ l. is_covered_rule l.step.rule) ls ≡ true
+pub resolutions_covered : (ls : List Line) → AreByResolution ls → AreByCoveredRules ls
 resolutions_covered [] e = refl
 resolutions_covered (l ∷ ls) e =
     let both = and_parts (is_resolution_rule l.step.rule) (list_all (λ m. is_resolution_rule m.step.rule) ls) e in

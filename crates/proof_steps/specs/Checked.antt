@@ -24,8 +24,8 @@ abbrev pub AreByResolution : List Line → Type 0
 AreByResolution lines = IsTrue (list_all (λ l. is_resolution_rule l.step.rule) lines)
 
 -- no step is by a rule about equations
-abbrev pub AreCovered : List Line → Type 0
-AreCovered lines = IsTrue (list_all (λ l. is_covered_rule l.step.rule) lines)
+abbrev pub AreByCoveredRules : List Line → Type 0
+AreByCoveredRules lines = IsTrue (list_all (λ l. is_covered_rule l.step.rule) lines)
 
 -- the line states what its step concludes, in at most 4,096 symbols
 abbrev pub IsConclusion : List Clause → List Statement → Line → Type 0

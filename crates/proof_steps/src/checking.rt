@@ -1,6 +1,6 @@
 ghost use Rattle.std.specs.Prelude.{◌≡◌, ◌↔◌, IsTrue, IfOk};
 ghost use Rattle.spl_truth.specs.Truth.{Refuted};
-ghost use Rattle.proof_steps.specs.Checked.{stated, AreCovered, IsCovered, AreConclusions, IsContradiction, EndsEmpty, AllStand, Checked};
+ghost use Rattle.proof_steps.specs.Checked.{stated, AreByCoveredRules, IsCovered, AreConclusions, IsContradiction, EndsEmpty, AllStand, Checked};
 
 use crate::concluding::conclude_from_lines;
 use crate::step::{Line, Statement};
@@ -75,7 +75,7 @@ fn ends_empty(lines: &[Line]) -> bool
 ///
 /// Only where there is no memory.
 pub fn check(alloc: Global, input: &[Clause], lines: &[Line]) -> Result<bool, AllocError>
-    ensures exact { IfOk result (λ yes. IsTrue yes ↔ (Checked input.now lines.now × AreCovered lines.now)) }
+    ensures exact { IfOk result (λ yes. IsTrue yes ↔ (Checked input.now lines.now × AreByCoveredRules lines.now)) }
     ensures sound { IfOk result (λ yes. IsTrue yes → Refuted input.now) }
 {
     for (k, line) in lines.iter().enumerate() {
@@ -90,7 +90,7 @@ pub fn check(alloc: Global, input: &[Clause], lines: &[Line]) -> Result<bool, Al
 /// equations, follows from the input clauses and from what its dependencies assume. It does nothing when it runs.
 pub fn follow(input: &[Clause], lines: &[Line])
     requires conclusions { AreConclusions input.now lines.now }
-    requires covered { AreCovered lines.now }
+    requires covered { AreByCoveredRules lines.now }
     ensures { AllStand input.now lines.now }
 {}
 
@@ -98,6 +98,6 @@ pub fn follow(input: &[Clause], lines: &[Line])
 /// clauses and of the axioms of equality are true under no assignment. It does nothing when it runs.
 pub fn refutes(input: &[Clause], lines: &[Line])
     requires checked { Checked input.now lines.now }
-    requires covered { AreCovered lines.now }
+    requires covered { AreByCoveredRules lines.now }
     ensures { Refuted input.now }
 {}

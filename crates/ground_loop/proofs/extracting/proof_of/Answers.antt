@@ -1,5 +1,6 @@
 use Rattle.std.proofs.Common.{subst, sym}
-use Rattle.proof_steps.specs.Checked.{Checked, AreByResolution}
+use Rattle.proof_steps.specs.Checked.{Checked, AreByResolution, AreByCoveredRules}
+use Rattle.proof_steps.proofs.Steps.{resolutions_covered}
 use Rattle.ground_loop.specs.Proofs.{ParentsComeBefore, IsProofIn}
 use Rattle.ground_loop.specs.Ends.{IsFirstEmpty}
 use Rattle.ground_loop.proofs.ExtractLemmas.{run_before, run_rules, proof_checked, proof_rules, proof_short}
@@ -19,10 +20,10 @@ refutes-requires-clause-checked c =
     let found = subst (λ ls. IsProofIn ls c.in_ok-proof.proof) c.as_slice.ensures c.in_ok-proof.ensures in
     subst (Checked c.args.input.now) (sym c.as_slice-2.ensures) (proof_checked c.args.input.now c.args.run.now.lines c.args.run.now.given c.in_ok-proof.proof c.requires.run found)
 
-pub refutes-requires-clause-by_resolution : goal.refutes-requires-clause-by_resolution
-refutes-requires-clause-by_resolution c =
+pub refutes-requires-clause-covered : goal.refutes-requires-clause-covered
+refutes-requires-clause-covered c =
     let found = subst (λ ls. IsProofIn ls c.in_ok-proof.proof) c.as_slice.ensures c.in_ok-proof.ensures in
-    subst AreByResolution (sym c.as_slice-2.ensures) (proof_rules c.args.input.now c.args.run.now.lines c.args.run.now.given c.in_ok-proof.proof c.requires.run found)
+    subst AreByCoveredRules (sym c.as_slice-2.ensures) (resolutions_covered c.in_ok-proof.proof (proof_rules c.args.input.now c.args.run.now.lines c.args.run.now.given c.in_ok-proof.proof c.requires.run found))
 
 pub returns-clause-proof : goal.returns-clause-proof
 returns-clause-proof c = subst (λ ls. IsProofIn ls c.in_ok-proof.proof) c.as_slice.ensures c.in_ok-proof.ensures

@@ -1,5 +1,5 @@
 use Rattle.std.proofs.Common.{◌≡◌, ◌≤◌, length, ap, ◌∙◌, subst, sym}
-use Rattle.proof_steps.specs.Checked.{AreConclusions, AreByResolution, Checked}
+use Rattle.proof_steps.specs.Checked.{AreConclusions, AreByCoveredRules, Checked}
 use Rattle.spl_truth.specs.Truth.{Refuted}
 use Rattle.split_tree.specs.Journal.{ledger}
 use Rattle.proof_extract.specs.Extracting.{AreSplitsMarked, extracted, IsProofOf}
@@ -36,7 +36,7 @@ pub returns-clause-refuted : goal.returns-clause-refuted
 returns-clause-refuted c =
     let input = c.args.table.now.setting.input in
     let lines = ledger c.args.table.now.setting c.args.table.now.past in
-    if_ok c.marked_lines.result (IsProofOf lines c.args.clause) (λ p. IsContradictory lines c.args.clause → AreByResolution p → Refuted input)
+    if_ok c.marked_lines.result (IsProofOf lines c.args.clause) (λ p. IsContradictory lines c.args.clause → AreByCoveredRules p → Refuted input)
     (λ p is. proof_refutes input lines p c.args.clause c.ledger_is_concluded.ensures is) (returns-clause-proof c)
 
 pub returns-clause-count : goal.returns-clause-count

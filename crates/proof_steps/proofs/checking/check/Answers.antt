@@ -2,7 +2,7 @@ use Rattle.std.proofs.Common.{◌≡◌, ◌∙◌, ℕ, Some, IsTrue, take, sym
 use Rattle.std.specs.List.{slice_get}
 use Rattle.std.proofs.lemmas.Bool.{false≢true}
 use Rattle.proof_steps.specs.declared.step.Line.{Line}
-use Rattle.proof_steps.specs.Checked.{IsCovered, AreCovered, Checked, stated}
+use Rattle.proof_steps.specs.Checked.{IsCovered, AreByCoveredRules, Checked, stated}
 use Rattle.proof_steps.proofs.Steps.{line_below, line_is, get_is, rules_all}
 use Rattle.proof_steps.proofs.Sound.{by_rule, refuted-checked}
 use Rattle.proof_steps.proofs.checking.check.Goals as goal
@@ -32,7 +32,7 @@ each c k l e = c.loop-k.invariant k l (omega (arith, line_below c.args.lines.now
 checked : (c : After-ends_empty) → IsTrue c.ends_empty.result → Checked c.args.input.now c.args.lines.now
 checked c test = record { each = λ k l e. (each c k l e).0; ends = c.ends_empty.ensures.0 test }
 
-covered : (c : After-ends_empty) → AreCovered c.args.lines.now
+covered : (c : After-ends_empty) → AreByCoveredRules c.args.lines.now
 covered c = rules_all c.args.lines.now (λ k l e. (each c k l e).1)
 
 pub returns-clause-exact : goal.returns-clause-exact
