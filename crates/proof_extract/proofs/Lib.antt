@@ -4,3 +4,4 @@ pub mod Parents
 pub mod MarkLemmas
 pub mod Counts
 pub mod Extracts
+pub mod WithResolution
