@@ -3,7 +3,7 @@ use Rattle.std.specs.List.{slice_get}
 use Rattle.split_tree.specs.Journal.{ledger}
 use Rattle.split_tree.specs.Facts.{listed}
 use Rattle.split_tree.specs.Caches.{empties}
-use Rattle.split_tree.proofs.table.Table.live.Given as goal
+use Rattle.split_tree.proofs.table.Table.first_empty.Given as goal
 
 abbrev pub invariant-loop-number : goal.invariant-loop-number
 invariant-loop-number l = record {

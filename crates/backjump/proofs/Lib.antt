@@ -1,0 +1,5 @@
+pub mod Deaths
+pub mod Pairs
+pub mod Cases
+pub mod Steps
+pub mod Root

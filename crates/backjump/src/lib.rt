@@ -1,0 +1,7 @@
+//! Closing cases: where both sides of a split are closed, the node above is closed too.
+#![tactic(auto)]
+
+mod case_step;
+mod settling;
+
+pub use settling::settle;
