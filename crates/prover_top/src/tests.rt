@@ -1,6 +1,7 @@
-use crate::{Answer, run_alone};
+use crate::{Answer, Report, run_alone};
 use dfg_reader::{FaultKind, ReadFault};
 use outside_io::{MemorySink, MemorySource, SureSink, SureSource};
+use split_tree::{Event, Limits, Table};
 use std::alloc::Global;
 use std::test::Fail;
 
@@ -70,14 +71,14 @@ fn clause(
 }
 
 /// Runs over a sure source and a sure sink, and compares the status and the whole text.
-fn answers(
+fn reports(
     rt: &impl std::process::Abort,
     alloc: Global,
     words: &[&str],
     input: &str,
     status: u8,
     text: &str,
-) -> Result<Answer, Fail> {
+) -> Result<Report, Fail> {
     let words = texts(alloc, words)?;
     let bytes = Vec::from_slice(alloc, input.as_bytes())?;
     let mut source = SureSource::new(alloc, bytes, 1000);
@@ -86,7 +87,34 @@ fn answers(
     assert_eq!(rt; sink.written(), text.as_bytes());
     assert_eq!(rt; report.status, status);
     assert_eq!(rt; report.write_failed, false);
-    Ok(report.answer)
+    Ok(report)
+}
+
+/// The answer of such a call.
+fn answers(
+    rt: &impl std::process::Abort,
+    alloc: Global,
+    words: &[&str],
+    input: &str,
+    status: u8,
+    text: &str,
+) -> Result<Answer, Fail> {
+    Ok(reports(rt, alloc, words, input, status, text)?.answer)
+}
+
+/// The table of such a call.
+fn tables(
+    rt: &impl std::process::Abort,
+    alloc: Global,
+    words: &[&str],
+    input: &str,
+    status: u8,
+    text: &str,
+) -> Result<Table, Fail> {
+    match reports(rt, alloc, words, input, status, text)?.table {
+        Some(table) => Ok(table),
+        None => Err(Fail::new("no table")),
+    }
 }
 
 #[test]
@@ -121,6 +149,108 @@ fn proofs_completions_and_rounds(rt: HostRuntime) -> Result<(), Fail> {
         }
     );
     answers(&rt, alloc, &none, nothing.as_str(), 1, text)?;
+    Ok(())
+}
+
+/// Whether the worker claimed the root, and found nothing to choose there.
+fn is_complete_at_once(table: &Table) -> bool {
+    if table.events() != 2 {
+        return false;
+    }
+    let (first, claim) = table.event(0);
+    let (second, end) = table.event(1);
+    first == 1
+        && second == 1
+        && matches!(claim, Event::Claim { node: 0 })
+        && matches!(end, Event::Saturated { node: 0 })
+}
+
+/// Whether the worker claimed the root, chose and worked off the first clause, and had spent its rounds.
+fn is_spent_after_the_first(table: &Table) -> bool {
+    if table.events() != 4 {
+        return false;
+    }
+    let (_, choice) = table.event(1);
+    let (_, activation) = table.event(2);
+    let (_, end) = table.event(3);
+    matches!(
+        choice,
+        Event::Choose {
+            node: 0,
+            clause: 1,
+            ..
+        }
+    ) && matches!(activation, Event::Activate { node: 0 })
+        && matches!(end, Event::Spent { node: 0 })
+}
+
+/// Whether the last event says that no more steps may be published than the one that was.
+fn is_full_after_one(table: &Table) -> bool {
+    let count = table.events();
+    if count == 0 {
+        return false;
+    }
+    let (_, end) = table.event(count - 1);
+    matches!(end, Event::Full { node: 0, .. }) && table.counted() == 1
+}
+
+#[test]
+fn journals_at_the_root(rt: HostRuntime) -> Result<(), Fail> {
+    let alloc = rt.alloc();
+    let mut nothing = String::from_str(alloc, HEAD)?;
+    nothing.push_str("end_problem.")?;
+    let text = "Completion found.\nCase 0: kept 0, put off 0.\n";
+    let table = tables(&rt, alloc, &["prove"], nothing.as_str(), 1, text)?;
+    assert!(rt; is_complete_at_once(&table));
+    let none = ["prove", "--rounds", "0"];
+    let table = tables(&rt, alloc, &none, nothing.as_str(), 1, text)?;
+    assert!(rt; is_complete_at_once(&table));
+
+    let empty = problem(alloc, "", &["or(false)"])?;
+    let table = tables(&rt, alloc, &["prove"], empty.as_str(), 0, EMPTY_PROOF)?;
+    assert_eq!(rt; table.events(), 0);
+    let table = tables(&rt, alloc, &none, empty.as_str(), 0, EMPTY_PROOF)?;
+    assert_eq!(rt; table.events(), 0);
+    assert_eq!(rt; table.limits().rounds, 0);
+
+    let two = problem(alloc, TWO, &["P(a)", "not(P(a))"])?;
+    let one = ["prove", "--rounds", "1"];
+    let table = tables(&rt, alloc, &one, two.as_str(), 2, "Gave up: rounds 1.\n")?;
+    assert!(rt; is_spent_after_the_first(&table));
+    Ok(())
+}
+
+#[test]
+fn gives_up_when_the_steps_are_spent(rt: HostRuntime) -> Result<(), Fail> {
+    let alloc = rt.alloc();
+    let symbols = "functions[(a,0),(b,0),(c,0),(d,0)].predicates[(R,1),(S,1),(P,1),(Q,1)].";
+    let clauses = [
+        "or(P(a),Q(b))",
+        "or(not(P(a)),R(c))",
+        "or(not(P(a)),not(R(c)))",
+        "or(not(Q(b)),S(d))",
+        "or(not(Q(b)),not(S(d)))",
+    ];
+    let cases = problem(alloc, symbols, &clauses)?;
+    let words = ["prove", "--steps", "1", "--workers", "1"];
+    let text = "Gave up: steps 1.\n";
+    let report = reports(&rt, alloc, &words, cases.as_str(), 2, text)?;
+    assert_eq!(rt; report.answer, Answer::Steps { limit: 1 });
+    let Some(table) = report.table else {
+        return Err(Fail::new("no table"));
+    };
+    let limits = Limits {
+        rounds: 10_000,
+        steps: 1,
+        splits: 0,
+    };
+    assert_eq!(rt; table.limits(), limits);
+    assert_eq!(rt; table.workers(), 1);
+    assert_eq!(rt; table.input().len(), 5);
+    assert!(rt; is_full_after_one(&table));
+
+    let two = problem(alloc, TWO, &["P(a)", "not(P(a))"])?;
+    answers(&rt, alloc, &words, two.as_str(), 0, TWO_PROOF)?;
     Ok(())
 }
 
@@ -278,6 +408,8 @@ fn refusals(rt: HostRuntime) -> Result<(), Fail> {
     answers(&rt, alloc, &["prove", "--rounds"], HEAD, 3, refused)?;
     let twice = ["prove", "--rounds", "5", "--rounds", "5"];
     answers(&rt, alloc, &twice, HEAD, 3, refused)?;
+    answers(&rt, alloc, &["prove", "--steps", "0"], HEAD, 3, refused)?;
+    answers(&rt, alloc, &["prove", "--splits", "0"], HEAD, 3, refused)?;
 
     let cut = &HEAD[..110];
     let text = "Input refused at byte 110: Unexpected.\n";
