@@ -83,7 +83,13 @@ fn closed_above(table: &Table, place: u32) -> Option<Closed>
 }
 
 /// The event that closes the node.
-fn closing(alloc: Global, table: &Table, by: u32, place: u32, closed: Closed) -> Result<Event, AllocError>
+fn closing(
+    alloc: Global,
+    table: &Table,
+    by: u32,
+    place: u32,
+    closed: Closed,
+) -> Result<Event, AllocError>
     requires some { 1 ≤ by }
     requires worker { by ≤ table.now.setting.workers }
     requires unended { first_end table.now.past ≡ None }

@@ -70,7 +70,15 @@ fn assume_negation(
     stated(alloc, clause, Deps::one(alloc, Assumption { split, side })?)
 }
 
-/// What is assumed on a side of the split of a clause: its left part, its right part, or the negation of an atom.
+/// What is assumed on a side of the split of a clause (Weidenbach 2001, splitting): its left part on side 1, its right
+/// part on side 2, and on side 2 with a number the negation of that atom of a left part without variables.
+///
+/// Clauses are numbered from 1, atoms from 0 in constraint, antecedent, succedent; `r` is what the clause with the
+/// number `split` states. Nothing is assumed where there is no such clause, part or atom, and past 4,096 symbols.
+///
+/// # Errors
+///
+/// Only where there is no memory, or where an atom is to be negated of a left part of more than 4,096 symbols.
 pub fn assume(
     alloc: Global,
     split: u32,

@@ -16,6 +16,7 @@ mod step;
 #[cfg(test)]
 mod tests;
 
+pub use cases::assume;
 pub use checking::{check, follow, refutes};
 pub use concluding::{conclude, conclude_from_lines};
 pub use lookup::{numbered, numbered_line};

@@ -3,6 +3,5 @@ pub mod WordLemmas
 pub mod Closed
 pub mod Ends
 pub mod Contradicted
-pub mod Resolved
 pub mod Causes
 pub mod Clauses

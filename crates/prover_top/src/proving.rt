@@ -1,7 +1,6 @@
 //! Proving: a table, one worker's events, and what their journal says.
 ghost use Rattle.std.specs.Prelude.{◌≡◌, ◌<◌, ◌≤◌, ◌^◌, [], length, IfOk, IfSome, IsSome, None, Some};
 ghost use Rattle.spl_truth.specs.Truth.{Refuted};
-ghost use Rattle.proof_steps.specs.Checked.{AreByResolution};
 ghost use Rattle.split_tree.specs.declared.event.End.TheVariants.{Proved};
 ghost use Rattle.split_tree.specs.Journal.{ledger, nodes, steps};
 ghost use Rattle.split_tree.specs.Ending.{reason};
@@ -70,31 +69,19 @@ fn contradiction(table: &Table) -> u32
     }
 }
 
-/// The law that lines of a table that splits no clause are by the rules of resolution. It does nothing when it runs.
-fn is_by_resolution(table: &Table, number: u32, proof: &[Line])
-    requires unsplit { table.now.setting.limits.splits ≡ 0 }
-    requires leads { IsProofOf (ledger table.now.setting table.now.past) number proof.now }
-    ensures { AreByResolution proof.now }
-{
-    table.journal_is_legal();
-}
-
 /// The lines that lead to the first contradiction.
 fn proof_in(alloc: Global, table: &Table) -> Result<Items<Line>, AllocError>
     requires proved { reason table.now.setting table.now.past ≡ Some Proved }
-    requires unsplit { table.now.setting.limits.splits ≡ 0 }
     ensures proved { IfOk result (λ proof. IsProved table.now proof) }
     ensures short { IfOk result (λ proof. length proof < 2 ^ 32) }
 {
     let number = contradiction(table);
     let proof = extract(alloc, table, number)?;
-    is_by_resolution(table, number, proof.as_slice());
     Ok(proof)
 }
 
 fn found(alloc: Global, table: Table) -> Decided
-    requires proved { reason table.setting table.past ≡ Some Proved }
-    requires unsplit { table.setting.limits.splits ≡ 0 }
+    requires { reason table.setting table.past ≡ Some Proved }
     ensures answered { IsAnswered table result.proof result.answer }
     ensures table { result.table ≡ Some table }
     ensures short { length result.proof < 2 ^ 32 }
@@ -149,7 +136,6 @@ fn answer_of(table: &Table) -> Answer
 }
 
 fn decide(alloc: Global, table: Table) -> Decided
-    requires { table.setting.limits.splits ≡ 0 }
     ensures answered { IsAnswered table result.proof result.answer }
     ensures table { result.table ≡ Some table }
     ensures legal { IsLegalJournal table.setting table.past }

@@ -1,18 +1,14 @@
-ghost use Rattle.std.specs.Prelude.{◌≡◌, ◌<◌, ◌≤◌, ◌∷◌, [], OnOk, IfErr, IfOk, Some};
+ghost use Rattle.std.specs.Prelude.{◌≡◌, ◌≤◌, ◌∷◌, [], OnOk, IfErr, IfOk, Some};
 ghost use Rattle.spl_terms.specs.Clauses.{clause_symbols};
 ghost use Rattle.proof_steps.specs.Steps.{ground_resolve};
 ghost use Rattle.proof_steps.specs.Checked.{resolution_of_lines};
-ghost use Rattle.split_tree.specs.Journal.{ledger, nodes, steps};
-ghost use Rattle.dep_sets.specs.Assumptions.{contains_assumption};
-ghost use Rattle.split_tree.specs.declared.branch.Branch.{Branch};
-ghost use Rattle.split_tree.specs.Paths.{owner, branch};
+ghost use Rattle.split_tree.specs.Journal.{ledger, steps};
 ghost use Rattle.worker_cases.specs.Covering.{IsCovered};
 ghost use Rattle.worker_cases.specs.Filing.{HasFiled, IsOneMore};
 ghost use Rattle.worker_cases.specs.Working.{listing, IsBusy, IsMate, IsNewLine, IsStep, IsHalted};
 
 use crate::filing::{Filing, clause_key, is_subsumed};
 use crate::halt::Halt;
-use dep_sets::Deps;
 use proof_steps::{Line, Rule, Statement, Step};
 use spl_terms::{Items, Part, order_stays};
 use spl_truth::{Subst, is_tautology};
@@ -55,33 +51,6 @@ fn chain_of(alloc: Global, line: Line) -> Result<Items<Line>, AllocError>
     Ok(chain)
 }
 
-/// Whether the assumption of the node is one of these.
-fn is_assumed(table: &Table, deps: &Deps, node: u32) -> bool
-    requires { node < nodes table.now.past }
-    ensures { (b : Branch) → branch table.now.past node ≡ Some b → result ≡ contains_assumption deps.now b.assumed }
-{
-    match table.assumption(node) {
-        Some(assumption) => deps.contains(assumption),
-        None => false,
-    }
-}
-
-/// The deepest node on the path of the node whose assumption is one of these; else the root.
-fn owner(table: &Table, deps: &Deps, node: u32) -> u32
-    requires { node < nodes table.now.past }
-    ensures { result ≡ owner table.now.past deps.now node }
-{
-    table.journal_is_legal();
-    let mut at = node;
-    while let Some(parent) = table.parent(at) {
-        if is_assumed(table, deps, at) {
-            return at;
-        }
-        at = parent;
-    }
-    at
-}
-
 /// Publishes a step of the clause that is chosen at the node, or ends the journal where no more steps may be published.
 fn publish(alloc: Global, table: &mut Table, node: u32, clause: u32, line: Line) -> Result<(), Halt>
     requires busy { IsBusy table.old.setting table.old.past node clause }
@@ -94,7 +63,7 @@ fn publish(alloc: Global, table: &mut Table, node: u32, clause: u32, line: Line)
     order_stays();
     let closes = line.stated.clause.is_empty();
     let ends = line.stated.deps.is_empty();
-    let at = owner(table, &line.stated.deps, node);
+    let at = table.owner(node, &line.stated.deps);
     let chain = chain_of(alloc, line)?;
     if table.counted() >= table.limits().steps {
         table.apply(1, Event::Full { node, chain });

@@ -174,7 +174,7 @@ impl Table {
     }
 
     /// Whether the second node is on the path from the root to the first.
-    fn on_path(&self, node: u32, above: u32) -> bool
+    pub fn on_path(&self, node: u32, above: u32) -> bool
         requires { node < nodes self.now.past }
         ensures { result ≡ on_path self.now.past node above }
     {
