@@ -84,16 +84,31 @@ closing_legal s past legal w some worker unended inner clause left right i j c r
     let concluded = case_concluded s past legal inner clause left right i j c r e f is_r is_e is_f in
     let bound = counted_bound s past legal in
     record {
-      some = some; worker = worker; unended = λ go. unended;
+      some = some;
+      worker = worker;
+      unended = λ go. unended;
       asked = record {
         asked = record {
-          line = l; one = refl;
+          line = l;
+          one = refl;
           concluded = subst (λ x. (conclude s.input (stated (ledger s past)) x.step ≡ Some x.stated) × (clause_symbols x.stated.clause ≤ 4096)) (sym is) (concluded, omega arith);
-          live = live; typed = refl;
+          live = live;
+          typed = refl;
           cause = inr (record {
-            inner = inner; there = c.there; live = c.live; clause = clause; left = left; right = right;
-            left_child = c.left_child; right_child = c.right_child; left_empty = i; right_empty = j; first_left = c.first_left; first_right = c.first_right;
-            step = ap (λ x. x.step) is; owner = owner_is;
+            inner = inner;
+            there = c.there;
+            live = c.live;
+            clause = clause;
+            left = left;
+            right = right;
+            left_child = c.left_child;
+            right_child = c.right_child;
+            left_empty = i;
+            right_empty = j;
+            first_left = c.first_left;
+            first_right = c.first_right;
+            step = ap (λ x. x.step) is;
+            owner = owner_is;
             new = λ d lists variant.
                 let at = lists.1 in
                 let void = variant_empty d (variant ∙ ap (λ x. renumbered x.stated.clause) is) in
@@ -133,7 +148,7 @@ still_open s past w n l legal some there h =
     let v = with_line w n l past in
     let k = climbs s v legal n some (omega arith) in
     let stands : published s v n (size + 1) ≡ true = or_left (eqb n n && (ltb size (size + 1) && eqb (size + 1) (size + 1))) (published s past n (size + 1))
-        (and_from (eqb n n) (ltb size (size + 1) && eqb (size + 1) (size + 1)) (eq-eqb n n refl) (and_from (ltb size (size + 1)) (eqb (size + 1) (size + 1)) (lt-ltb size (size + 1) (omega arith)) (eq-eqb (size + 1) (size + 1) refl))) in
+    (and_from (eqb n n) (ltb size (size + 1) && eqb (size + 1) (size + 1)) (eq-eqb n n refl) (and_from (ltb size (size + 1)) (eqb (size + 1) (size + 1)) (lt-ltb size (size + 1) (omega arith)) (eq-eqb (size + 1) (size + 1) refl))) in
     let has = own_assumption s v legal n (size + 1) l k.up stands (numbered_new (ledger s past) (l ∷ []) (size + 1) 0 (omega arith)) k.hangs in
     let off : is_contradiction l.stated ≡ false = contra_off (is_empty l.stated.clause) (no_assumptions l.stated.deps) (has_some l.stated.deps k.up.assumed has) in
     ap (λ o. or_else o (end_of l)) h ∙ ap (λ b. cond b (Some Proved) None) off

@@ -225,7 +225,9 @@ new_empty s past w n l m empty on =
     record {
       lists = or_left (on_path past m n && (ltb size (size + 1) && eqb (size + 1) (size + 1))) (listed s past m (size + 1))
           (and_from (on_path past m n) (ltb size (size + 1) && eqb (size + 1) (size + 1)) on (and_from (ltb size (size + 1)) (eqb (size + 1) (size + 1)) (lt-ltb size (size + 1) (omega arith)) (eq-eqb (size + 1) (size + 1) refl)));
-      line = l; found = numbered_new (ledger s past) (l ∷ []) (size + 1) 0 (omega arith); empty = empty;
+      line = l;
+      found = numbered_new (ledger s past) (l ∷ []) (size + 1) 0 (omega arith);
+      empty = empty;
     }
 
 -- an empty clause that was there before
@@ -261,15 +263,17 @@ settled_after s past legal w n l m there empty other settled live =
     let same : Some k.up ≡ Some (branch_to m c.clause c.side) = sym k.hangs ∙ c.is.hangs in
     let q : k.up ≡ branch_to m c.clause c.side = cc in
     record {
-      clause = c.clause; side = c.side; child = c.child;
+      clause = c.clause;
+      side = c.side;
+      child = c.child;
       is = record { there = (let t = c.is.there in omega arith); hangs = c.is.hangs };
       live = λ dead. elim (cases_Bool (on_path past c.child n)) [
         | inl on ↦ elim (or_cases (eqb n c.child) (on_path past k.up.parent n) (sym (k.goes n) ∙ on)) [
-            | inl here ↦
-                let z = eqb-true n c.child here in
-                other (branch_to m c.clause c.side) (ap (branch past) z ∙ c.is.hangs) refl
-            | inr up ↦ live (steps s past + 1, new_empty s past w n l m empty (ap (λ x. on_path past x.parent n) (sym q) ∙ up))
-          ]
+          | inl here ↦
+              let z = eqb-true n c.child here in
+              other (branch_to m c.clause c.side) (ap (branch past) z ∙ c.is.hangs) refl
+          | inr up ↦ live (steps s past + 1, new_empty s past w n l m empty (ap (λ x. on_path past x.parent n) (sym q) ∙ up))
+        ]
         | inr off ↦ c.live (dead_before s past legal w n l c.child off dead)
       ];
     }

@@ -31,7 +31,9 @@ child_after past e m clause side child c = let there = c.there in record { there
 
 pair_after : (past : List Entry) (e : Entry) (j : ℕ) → HasPair past j → HasPair (e ∷ past) j
 pair_after past e j p = record {
-  inner = p.inner; clause = p.clause; below = p.below;
+  inner = p.inner;
+  clause = p.clause;
+  below = p.below;
   split = and_right (not (splits_node e.event p.inner)) (is_leaf past p.inner) p.split;
   left = child_after past e p.inner p.clause 1 (2 * j + 1) p.left;
   right = child_after past e p.inner p.clause 2 (2 * j + 2) p.right;
@@ -48,16 +50,20 @@ split_pair s past legal w (Split node lines put_off) m j p h odd =
     let one = Some (branch_to node (subject lines) 1) in
     let two = Some (branch_to node (subject lines) 2) in
     let x = 2 * j + 1 in
-    let y = 2 * j + 2 in
-    (record {
-      inner = node; clause = subject lines; below = omega arith;
-      split = and_left (not (eqb node node)) (is_leaf past node) (ap not (eq-eqb node node refl));
-      left = record { there = omega arith; hangs = cond-true (eqb x count) one (cond (eqb x (count + 1)) two (branch past x)) (eq-eqb x count (omega arith)) };
-      right = record {
-        there = omega arith;
-        hangs = cond-false (eqb y count) one (cond (eqb y (count + 1)) two (branch past y)) (ne_eqb y count (λ r. omega arith)) ∙ cond-true (eqb y (count + 1)) two (branch past y) (eq-eqb y (count + 1) (omega arith));
-      };
-    }, q)
+    let y = 2 * j + 2 in (
+      record {
+        inner = node;
+        clause = subject lines;
+        below = omega arith;
+        split = and_left (not (eqb node node)) (is_leaf past node) (ap not (eq-eqb node node refl));
+        left = record { there = omega arith; hangs = cond-true (eqb x count) one (cond (eqb x (count + 1)) two (branch past x)) (eq-eqb x count (omega arith)) };
+        right = record {
+          there = omega arith;
+          hangs = cond-false (eqb y count) one (cond (eqb y (count + 1)) two (branch past y)) (ne_eqb y count (λ r. omega arith)) ∙ cond-true (eqb y (count + 1)) two (branch past y) (eq-eqb y (count + 1) (omega arith));
+        };
+      },
+      q,
+    )
 split_pair s past legal w _ m j p h odd = absurd (false≢true h)
 
 some_split : (ev : Event) (count j : ℕ) → count ≤ 2 * j + 1 → 2 * j + 1 < count + nodes_of ev → (m : ℕ) × (splits_node ev m ≡ true) × (nodes_of ev ≡ 2)
@@ -88,10 +94,10 @@ inner_pair s (e ∷ past) legal m there h =
           let c = p.0.left.there in
           (k.0, c, p)
       | inr old ↦ elim (cases_lt m (nodes past)) [
-          | inl low ↦
-              let r = inner_pair s past legal.1 m low old in
-              let c = r.1 in
-              (r.0, omega arith, (pair_after past e r.0 r.2.0, r.2.1))
-          | inr high ↦ absurd (false≢true (sym old ∙ fresh_leaf s past legal.1 m high))
-        ]
+        | inl low ↦
+            let r = inner_pair s past legal.1 m low old in
+            let c = r.1 in
+            (r.0, omega arith, (pair_after past e r.0 r.2.0, r.2.1))
+        | inr high ↦ absurd (false≢true (sym old ∙ fresh_leaf s past legal.1 m high))
+      ]
     ]

@@ -81,7 +81,7 @@ none_added s w place past = record {
   kept = λ j low there h. h;
 }
 
-one_entry : (w node : ℕ) (l : Line) → l.step.rule ≡ CaseBoth → (k : ℕ) (e : Entry) → slice_get (record { by = w; event = Publish node (l ∷ []) false } ∷ []) k ≡ Some e → IsCaseEntry w e
+pub one_entry : (w node : ℕ) (l : Line) → l.step.rule ≡ CaseBoth → (k : ℕ) (e : Entry) → slice_get (record { by = w; event = Publish node (l ∷ []) false } ∷ []) k ≡ Some e → IsCaseEntry w e
 one_entry w node l rule zero e h = record { node = node; line = l; rule = rule; is = cc }
 one_entry w node l rule (suc k) e h = cc
 
@@ -170,7 +170,9 @@ closing_event s past legal w some worker unended inner clause left right i j c r
     let node = owner past l.stated.deps inner in
     record {
       legal = subst (λ x. IsLegal s past w x) (sym q) (closing_legal s past legal w some worker unended inner clause left right i j c r e f is_r is_e is_f l is node refl);
-      node = node; line = l; is = q;
+      node = node;
+      line = l;
+      is = q;
       rule = ap (λ x. x.step.rule) is;
       empty = ap (λ x. is_empty x.stated.clause) is;
       belongs = refl;
@@ -200,9 +202,10 @@ pub closed_by : (s t : Setting) (past q : List Entry) → IsLegalJournal s past 
 closed_by s t past q legal w place inner clause i j c ev es ep h later e =
     let m = moved_event s t past q w inner ev es ep h in
     let at = event_line w past later ev m.node m.line m.is (e ∙ ap (λ x. (let y : Entry = record { by = w; event = ev } in y) ∷ x) ep) in
-    let now = subst (λ x. IsLegal s past w x) m.is m.legal in
-    (subst (λ x. IsPairStep s w place past x) (sym at) (one_added s past legal w place inner clause i j m.node m.line c now m.rule m.empty m.belongs),
-    subst (λ x. IsSettledAbove s x (2 * place + 1)) (sym at) (one_here s past legal w place inner clause i j m.node m.line c m.empty m.belongs))
+    let now = subst (λ x. IsLegal s past w x) m.is m.legal in (
+      subst (λ x. IsPairStep s w place past x) (sym at) (one_added s past legal w place inner clause i j m.node m.line c now m.rule m.empty m.belongs),
+      subst (λ x. IsSettledAbove s x (2 * place + 1)) (sym at) (one_here s past legal w place inner clause i j m.node m.line c m.empty m.belongs),
+    )
 
 pub can_close : (s : Setting) (past : List Entry) (j : ℕ) → HasPair past j → (inner clause left_empty right_empty : ℕ) → ((b : Branch) → branch past (2 * j + 1) ≡ Some b → (b.parent ≡ inner) × (b.assumed.split ≡ clause)) → IsLive s past inner
     → IsFirstEmpty s past (2 * j + 1) left_empty → IsFirstEmpty s past (2 * j + 1 + 1) right_empty → CanClose s past inner clause (2 * j + 1) (2 * j + 2) left_empty right_empty

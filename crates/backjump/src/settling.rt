@@ -29,7 +29,12 @@ struct Closed {
 }
 
 /// The event that publishes the line where it belongs on the path of the node.
-fn publication(alloc: Global, table: &Table, inner: u32, line: Line) -> Result<Event, AllocError>
+pub fn publication(
+    alloc: Global,
+    table: &Table,
+    inner: u32,
+    line: Line,
+) -> Result<Event, AllocError>
     requires { inner < nodes table.now.past }
     ensures { IfOk result (λ event. event ≡ Publish (owner table.now.past line.stated.deps inner) (line ∷ []) false) }
 {
@@ -44,7 +49,7 @@ fn publication(alloc: Global, table: &Table, inner: u32, line: Line) -> Result<E
 }
 
 /// The parent of a node other than the root, and the number of the clause that was split there.
-fn split_above(table: &Table, child: u32) -> (u32, u32)
+pub fn split_above(table: &Table, child: u32) -> (u32, u32)
     requires some { 0 < child }
     requires there { child < nodes table.now.past }
     ensures { (b : Branch) → branch table.now.past child ≡ Some b → (b.parent ≡ result.0) × (b.assumed.split ≡ result.1) }
@@ -83,7 +88,13 @@ fn closed_above(table: &Table, place: u32) -> Option<Closed>
 }
 
 /// The event that closes the node.
-fn closing(alloc: Global, table: &Table, by: u32, place: u32, closed: Closed) -> Result<Event, AllocError>
+fn closing(
+    alloc: Global,
+    table: &Table,
+    by: u32,
+    place: u32,
+    closed: Closed,
+) -> Result<Event, AllocError>
     requires some { 1 ≤ by }
     requires worker { by ≤ table.now.setting.workers }
     requires unended { first_end table.now.past ≡ None }
