@@ -3,3 +3,4 @@ pub mod Pairs
 pub mod Cases
 pub mod Steps
 pub mod Root
+pub mod Follow

@@ -81,7 +81,7 @@ none_added s w place past = record {
   kept = λ j low there h. h;
 }
 
-one_entry : (w node : ℕ) (l : Line) → l.step.rule ≡ CaseBoth → (k : ℕ) (e : Entry) → slice_get (record { by = w; event = Publish node (l ∷ []) false } ∷ []) k ≡ Some e → IsCaseEntry w e
+pub one_entry : (w node : ℕ) (l : Line) → l.step.rule ≡ CaseBoth → (k : ℕ) (e : Entry) → slice_get (record { by = w; event = Publish node (l ∷ []) false } ∷ []) k ≡ Some e → IsCaseEntry w e
 one_entry w node l rule zero e h = record { node = node; line = l; rule = rule; is = cc }
 one_entry w node l rule (suc k) e h = cc
 

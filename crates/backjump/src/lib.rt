@@ -2,6 +2,8 @@
 #![tactic(auto)]
 
 mod case_step;
+mod closing;
 mod settling;
 
+pub use closing::close;
 pub use settling::settle;

@@ -29,7 +29,12 @@ struct Closed {
 }
 
 /// The event that publishes the line where it belongs on the path of the node.
-fn publication(alloc: Global, table: &Table, inner: u32, line: Line) -> Result<Event, AllocError>
+pub fn publication(
+    alloc: Global,
+    table: &Table,
+    inner: u32,
+    line: Line,
+) -> Result<Event, AllocError>
     requires { inner < nodes table.now.past }
     ensures { IfOk result (λ event. event ≡ Publish (owner table.now.past line.stated.deps inner) (line ∷ []) false) }
 {
@@ -44,7 +49,7 @@ fn publication(alloc: Global, table: &Table, inner: u32, line: Line) -> Result<E
 }
 
 /// The parent of a node other than the root, and the number of the clause that was split there.
-fn split_above(table: &Table, child: u32) -> (u32, u32)
+pub fn split_above(table: &Table, child: u32) -> (u32, u32)
     requires some { 0 < child }
     requires there { child < nodes table.now.past }
     ensures { (b : Branch) → branch table.now.past child ≡ Some b → (b.parent ≡ result.0) × (b.assumed.split ≡ result.1) }
