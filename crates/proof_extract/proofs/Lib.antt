@@ -5,3 +5,4 @@ pub mod MarkLemmas
 pub mod Counts
 pub mod Extracts
 pub mod WithResolution
+pub mod WithSplit
