@@ -1,5 +1,5 @@
 -- A journal that the tests build is legal: two clauses, of which the second is P or Q. It is chosen and split.
-use Rattle.std.proofs.Common.{◌≡◌, ℕ, zero, suc, true, false, List, [], ◌∷◌, Some, None, refl, sym, subst, ◌∙◌, ap, arith}
+use Rattle.std.proofs.Common.{◌≡◌, ℕ, zero, suc, true, false, [], ◌∷◌, Some, None, refl, subst, ◌∙◌, ap, arith}
 use Rattle.std.specs.List.{slice_get}
 use Rattle.spl_terms.specs.declared.clause.Clause.{Clause}
 use Rattle.spl_terms.specs.Clauses.{is_empty}
@@ -7,9 +7,8 @@ use Rattle.proof_steps.specs.declared.step.Line.{Line}
 use Rattle.proof_steps.specs.Parts.{Parted}
 use Rattle.proof_steps.specs.Steps.{numbered, states, side_of}
 use Rattle.proof_steps.specs.Checked.{IsConclusion, stated}
-use Rattle.split_tree.specs.declared.event.Entry.{Entry}
 use Rattle.split_tree.specs.declared.event.Event.{Event}
-use Rattle.split_tree.specs.declared.event.Event.TheVariants.{Claim, Choose, Split}
+use Rattle.split_tree.specs.declared.event.Event.TheVariants.{Choose, Split}
 use Rattle.split_tree.specs.Journal.{Setting, input_line, ledger}
 use Rattle.split_tree.specs.Legal.{IsLegal, assume}
 use Rattle.split_tree.proofs.Legals.{settled_root}

@@ -1,5 +1,4 @@
-use Rattle.std.proofs.Common.{◌≡◌, ◌∙◌, ap, refl, false, [], ◌∷◌, ◌++◌, List, Some, None}
-use Rattle.proof_steps.specs.declared.step.Line.{Line}
+use Rattle.std.proofs.Common.{◌≡◌, ◌∙◌, ap, refl, [], ◌∷◌, ◌++◌, Some, None}
 use Rattle.proof_steps.specs.Steps.{side_of, states}
 use Rattle.split_tree.specs.declared.event.Event.TheVariants.{Claim, Choose, Split}
 use Rattle.split_tree.specs.Legal.{assume}
