@@ -218,7 +218,7 @@ extracted_checked input lines proof clause each is contradictory =
     }
 
 -- the rules of the marked lines are as before
-pub rules_kept : (marks : List Bool) (lines : List Line) → AreByCoveredRules lines → AreByCoveredRules (extracted marks lines)
+rules_kept : (marks : List Bool) (lines : List Line) → AreByCoveredRules lines → AreByCoveredRules (extracted marks lines)
 rules_kept marks lines all = kept marks lines all
   where
     kept : (bs : List Bool) (ls : List Line) → AreByCoveredRules ls → AreByCoveredRules (map (renumbered_line (new_number marks)) (pick_marked bs ls))
@@ -228,6 +228,10 @@ rules_kept marks lines all = kept marks lines all
         let both = and_parts (is_covered_rule l.step.rule) (list_all (λ m. is_covered_rule m.step.rule) ls) e in
         and_both (is_covered_rule l.step.rule) (list_all (λ m. is_covered_rule m.step.rule) (map (renumbered_line (new_number marks)) (pick_marked bs ls))) both.0 (kept bs ls both.1)
     kept (false ∷ bs) (l ∷ ls) e = kept bs ls (and_parts (is_covered_rule l.step.rule) (list_all (λ m. is_covered_rule m.step.rule) ls) e).1
+
+-- so where no line of the ledger is by a rule about equations, none of the proof is
+pub proof_covered : (lines proof : List Line) (clause : ℕ) → IsProofOf lines clause proof → AreByCoveredRules lines → AreByCoveredRules proof
+proof_covered lines proof clause is all = subst AreByCoveredRules (sym is.is) (rules_kept is.marks lines all)
 
 -- and the input is refuted, where no rule is about equations
 pub proof_refutes : (input : List Clause) (lines proof : List Line) (clause : ℕ) → AreConclusions input lines → IsProofOf lines clause proof → IsContradictory lines clause → AreByCoveredRules proof → Refuted input

@@ -6,3 +6,4 @@ pub mod Counts
 pub mod Extracts
 pub mod WithResolution
 pub mod Covered
+pub mod WithSplit

@@ -169,8 +169,8 @@ publish_legal = record {
 
 -- ---- the same for a table that is known to have this setting and these entries
 
-pub legal_at : (t : Setting) (past known : List Entry) (ev is : Event) → t ≡ s → past ≡ known → ev ≡ is → IsLegal s known 1 is → IsLegal t past 1 ev
-legal_at t past known ev is e f g legal = subst (λ x. IsLegal x past 1 ev) (sym e) (subst (λ x. IsLegal s x 1 ev) (sym f) (subst (IsLegal s known 1) (sym g) legal))
+pub legal_at : (t wanted : Setting) (past known : List Entry) (ev is : Event) → t ≡ wanted → past ≡ known → ev ≡ is → IsLegal wanted known 1 is → IsLegal t past 1 ev
+legal_at t wanted past known ev is e f g legal = subst (λ x. IsLegal x past 1 ev) (sym e) (subst (λ x. IsLegal wanted x 1 ev) (sym f) (subst (IsLegal wanted known 1) (sym g) legal))
 
 pub setting_is : (t : Setting) (a b c : Clause) → t ≡ record { input = a ∷ b ∷ c ∷ []; limits = s.limits; workers = 1 } → a ≡ other → b ≡ positive → c ≡ negative → t ≡ s
 setting_is t a b c e f g h = e ∙ (λ i. record { input = f i ∷ g i ∷ h i ∷ []; limits = s.limits; workers = 1 })

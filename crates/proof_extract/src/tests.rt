@@ -1,13 +1,14 @@
-ghost use Rattle.std.specs.Prelude.{◌≡◌, ◌∷◌, [], IfOk, length, None};
+ghost use Rattle.std.specs.Prelude.{◌≡◌, ◌∷◌, [], IfOk, length, None, Some};
 ghost use Rattle.spl_terms.specs.declared.term.Kind.TheVariants.{Predicate};
 ghost use Rattle.spl_terms.specs.declared.atom.Atom.TheVariants.{Holds};
 ghost use Rattle.spl_terms.specs.declared.clause.Part.TheVariants.{Antecedent};
-ghost use Rattle.proof_steps.specs.Steps.{ground_resolve, states};
+ghost use Rattle.proof_steps.specs.Steps.{ground_resolve, side_of, states};
 ghost use Rattle.split_tree.specs.Journal.{steps};
 ghost use Rattle.split_tree.specs.declared.event.Event.TheVariants.{Choose};
+ghost use Rattle.split_tree.specs.Legal.{assume};
 
 use super::*;
-use dep_sets::Deps;
+use dep_sets::{Assumption, Deps};
 use proof_steps::{Line, Rule, Statement, Step};
 use spl_terms::{Atom, Clause, Items, Kind, Part, Symbol, same_clause};
 use spl_truth::Subst;
@@ -202,5 +203,108 @@ fn a_published_contradiction_has_its_ancestors(rt: HostRuntime) -> Result<(), Fa
     assert_eq!(rt; first_contradiction(&table), Some(4));
     let proof = extract(alloc, &table, 4)?;
     assert!(rt; is_refutation(proof.as_slice()));
+    Ok(())
+}
+
+// ---- ledgers with a split
+
+fn either(alloc: Global) -> Result<Clause, AllocError>
+    ensures { IfOk result (λ c. c ≡ record { constraint = []; antecedent = []; succedent = Holds (record { number = 0; kind = Predicate }) [] ∷ Holds (record { number = 1; kind = Predicate }) [] ∷ [] }) }
+{
+    let mut clause = Clause::new(alloc);
+    clause.succedent.push(atom(alloc, 0))?;
+    clause.succedent.push(atom(alloc, 1))?;
+    Ok(clause)
+}
+
+/// The line that states what this side of the second clause's split assumes.
+fn assumed(
+    alloc: Global,
+    side: u32,
+    negated: Option<u32>,
+    clause: Clause,
+) -> Result<Line, AllocError>
+    ensures { IfOk result (λ l. l ≡ record { step = assume 2 side negated; stated = states clause (side_of 2 side ∷ []) }) }
+{
+    Ok(Line {
+        step: Step {
+            rule: Rule::Assume { side, negated },
+            parents: Items::from_slice(alloc, &[2])?,
+        },
+        stated: Statement {
+            clause,
+            deps: Deps::one(alloc, Assumption { split: 2, side })?,
+        },
+    })
+}
+
+/// Two clauses, of which the second is one of two atoms: it is chosen and split.
+fn with_split(alloc: Global) -> Result<Table, AllocError>
+    ensures { IfOk result (λ t. steps t.setting t.past ≡ 5) }
+{
+    let input = [other(alloc)?, either(alloc)?];
+    let limits = Limits {
+        rounds: 1,
+        steps: 3,
+        splits: 1,
+    };
+    let mut table = Table::start(alloc, &input, limits, 1)?;
+    let mut lines = Items::new(alloc);
+    lines.push(assumed(alloc, 1, None, fact(alloc, 0)?)?)?;
+    lines.push(assumed(alloc, 2, None, fact(alloc, 1)?)?)?;
+    lines.push(assumed(alloc, 2, Some(0), denial(alloc, 0)?)?)?;
+    let put_off = Items::from_slice(alloc, &[false, false, false])?;
+    table.reserve(3, 3)?;
+    table.apply(1, Event::Claim { node: 0 });
+    table.apply(1, choose(2));
+    table.apply(
+        1,
+        Event::Split {
+            node: 0,
+            steps: lines,
+            put_off,
+        },
+    );
+    Ok(table)
+}
+
+/// Whether the line is this side's assumption of the clause with the number 1.
+fn is_assumption_line(line: &Line, side: u32, negated: Option<u32>) -> bool {
+    match line.step.rule {
+        Rule::Assume {
+            side: s,
+            negated: n,
+        } => {
+            s == side
+                && n == negated
+                && matches!(line.step.parents.as_slice(), [1])
+                && line.stated.deps.count() == 1
+                && line.stated.deps.contains(Assumption { split: 1, side })
+        }
+        _ => false,
+    }
+}
+
+/// Whether the lines are the second input clause and this side's assumption of it, with the numbers 1 and 2.
+fn is_assumption(lines: &[Line], side: u32, negated: Option<u32>, clause: &Clause) -> bool {
+    match lines {
+        [first, last] => {
+            is_input_line(first, 2)
+                && is_assumption_line(last, side, negated)
+                && same_clause(&last.stated.clause, clause)
+        }
+        _ => false,
+    }
+}
+
+#[test]
+fn an_assumption_names_its_new_split(rt: HostRuntime) -> Result<(), Fail> {
+    let alloc = rt.alloc();
+    let table = with_split(alloc)?;
+    assert_eq!(rt; first_contradiction(&table), None);
+    let proof = extract(alloc, &table, 4)?;
+    assert!(rt; is_assumption(proof.as_slice(), 2, None, &fact(alloc, 1)?));
+    let proof = extract(alloc, &table, 5)?;
+    assert!(rt; is_assumption(proof.as_slice(), 2, Some(0), &denial(alloc, 0)?));
     Ok(())
 }
