@@ -1,5 +1,5 @@
 -- The events of the small journal are legal.
-use Rattle.std.proofs.Common.{◌≡◌, ℕ, false, List, [], ◌∷◌, None, refl, sym, subst}
+use Rattle.std.proofs.Common.{◌≡◌, false, List, [], ◌∷◌, None, refl, sym, subst}
 use Rattle.spl_terms.specs.declared.clause.Part.TheVariants.{Antecedent}
 use Rattle.proof_steps.specs.declared.step.Line.{Line}
 use Rattle.proof_steps.specs.Steps.{ground_resolve, states}

@@ -1,4 +1,4 @@
-use Rattle.std.proofs.Common.{◌≡◌, false, [], ◌∷◌, sym, subst}
+use Rattle.std.proofs.Common.{false, [], ◌∷◌, sym, subst}
 use Rattle.split_tree.specs.declared.event.Event.TheVariants.{Publish}
 use Rattle.split_tree.specs.Legal.{IsLegal}
 use Rattle.backjump.specs.Samples.{contradictory, chosen_again}

@@ -1,4 +1,4 @@
-use Rattle.std.proofs.Common.{◌≡◌, ◌∙◌, List, [], ◌∷◌, None, ap}
+use Rattle.std.proofs.Common.{◌∙◌, ◌∷◌, None, ap}
 use Rattle.split_tree.specs.declared.event.Entry.{Entry}
 use Rattle.split_tree.specs.declared.event.Event.TheVariants.{Claim, Choose, Activate}
 use Rattle.backjump.specs.Samples.{contradictory, chosen}
