@@ -1,28 +1,24 @@
 -- A case step is legal where a live node has two dead children.
-use Rattle.std.specs.Prelude.{count_by}
-use Rattle.std.proofs.Common.{◌≡◌, ℕ, zero, suc, ◌+◌, ◌-◌, ◌<◌, ◌≤◌, ◌⊎◌, inl, inr, Bool, true, false, cond, ◌&&◌, ◌||◌, eqb, ltb, List, [], ◌∷◌, ◌++◌, length, map, Option, Some, None, option_map, refl, sym, ◌∙◌, ap, subst, arith, eq-eqb}
-use Rattle.std.proofs.lemmas.Bool.{or_left, and_parts, and_from, lt-ltb, cases_Bool, false≢true, false_from_ne_true}
+use Rattle.std.proofs.Common.{◌≡◌, ℕ, zero, suc, ◌+◌, ◌<◌, ◌≤◌, ◌⊎◌, inl, inr, Bool, true, false, cond, ◌&&◌, eqb, ltb, List, [], ◌∷◌, map, Option, Some, None, option_map, refl, sym, ◌∙◌, ap, subst, arith, eq-eqb}
+use Rattle.std.proofs.lemmas.Bool.{or_left, and_parts, and_from, lt-ltb, false≢true}
 use Rattle.std.proofs.lemmas.Option.{slice_get-map}
-use Rattle.std.specs.List.{slice_get}
 use Rattle.spl_terms.specs.declared.atom.Atom.{Atom}
 use Rattle.spl_terms.specs.declared.clause.Clause.{Clause}
 use Rattle.spl_terms.specs.Clauses.{is_empty, no_atoms, renumbered, clause_symbols}
 use Rattle.dep_sets.specs.declared.deps.Assumption.{Assumption}
 use Rattle.dep_sets.specs.Assumptions.{contains_assumption}
 use Rattle.proof_steps.specs.declared.step.Line.{Line}
-use Rattle.proof_steps.specs.declared.step.Statement.{Statement}
-use Rattle.proof_steps.specs.Steps.{numbered, side_of, states, when, closes, of_three, case_both, conclude}
+use Rattle.proof_steps.specs.Steps.{numbered, side_of, when, closes, of_three, case_both, conclude}
 use Rattle.proof_steps.specs.Checked.{stated}
-use Rattle.split_tree.specs.declared.branch.Branch.{Branch}
 use Rattle.split_tree.specs.declared.event.Entry.{Entry}
 use Rattle.split_tree.specs.declared.event.Event.TheVariants.{Publish}
 use Rattle.split_tree.specs.declared.event.End.{End}
 use Rattle.split_tree.specs.declared.event.End.TheVariants.{Proved}
 use Rattle.split_tree.specs.Journal.{Setting, nodes, ledger, steps, counted, count_of}
-use Rattle.split_tree.specs.Paths.{on_path, branch, owner}
-use Rattle.split_tree.specs.Facts.{listed, IsEmptyAt, IsDead, IsLive}
-use Rattle.split_tree.specs.Ending.{no_assumptions, is_contradiction, end_by, first_end, or_else}
-use Rattle.split_tree.specs.Legal.{IsLegal, IsLegalJournal, IsChild, IsFirstEmpty, case_step}
+use Rattle.split_tree.specs.Paths.{on_path, owner}
+use Rattle.split_tree.specs.Facts.{IsEmptyAt, IsLive}
+use Rattle.split_tree.specs.Ending.{no_assumptions, is_contradiction, first_end, or_else}
+use Rattle.split_tree.specs.Legal.{IsLegal, IsLegalJournal, IsChild, case_step}
 use Rattle.split_tree.specs.Closing.{published}
 use Rattle.split_tree.proofs.Bounds.{counted_bound}
 use Rattle.split_tree.proofs.Branches.{climbs}

@@ -1,5 +1,5 @@
 -- Which nodes an empty clause makes dead, and on which assumption it depends.
-use Rattle.std.proofs.Common.{◌≡◌, ℕ, zero, suc, ◌+◌, ◌-◌, ◌<◌, ◌≤◌, ◌⊎◌, inl, inr, Bool, true, false, cond, ◌&&◌, ◌||◌, eqb, ltb, leb, List, [], ◌∷◌, ◌++◌, length, Option, Some, None, refl, sym, ◌∙◌, ap, subst, arith, eq-eqb}
+use Rattle.std.proofs.Common.{◌≡◌, ℕ, zero, suc, ◌+◌, ◌-◌, ◌<◌, ◌≤◌, ◌⊎◌, inl, inr, Bool, true, false, cond, ◌&&◌, ◌||◌, eqb, ltb, leb, List, [], ◌∷◌, ◌++◌, length, Some, refl, sym, ◌∙◌, ap, arith, eq-eqb}
 use Rattle.std.proofs.lemmas.Bool.{or_cases, or_left, or_right, and_parts, and_from, eqb-true, ltb-true, lt-ltb, cases_Bool, cases_lt, cond-true, cond-false, false≢true}
 use Rattle.spl_terms.specs.Clauses.{is_empty}
 use Rattle.dep_sets.specs.declared.deps.Assumption.{Assumption}
@@ -13,15 +13,15 @@ use Rattle.split_tree.specs.declared.event.Event.TheVariants.{Publish, Split}
 use Rattle.split_tree.specs.Journal.{Setting, nodes, nodes_of, ledger, steps, lines_of}
 use Rattle.split_tree.specs.Paths.{stem, on_path, branch, branch_by, branch_to, owner, owner_by, subject}
 use Rattle.split_tree.specs.Facts.{lists, listed, IsEmptyAt, IsDead, IsLive}
-use Rattle.split_tree.specs.Legal.{IsAsked, IsLegalJournal, IsChild, IsPublishable, IsSplittable, HasLiveChild}
+use Rattle.split_tree.specs.Legal.{IsAsked, IsLegalJournal, IsChild, IsPublishable, IsSplittable}
 use Rattle.split_tree.specs.Closing.{published}
-use Rattle.split_tree.proofs.Places.{stem_there, node_there, claimed_within, owner_within}
+use Rattle.split_tree.proofs.Places.{stem_there, claimed_within}
 use Rattle.split_tree.proofs.Climb.{on_path-self, on_path_within, on_path_grow, stem_old}
 use Rattle.split_tree.proofs.Branches.{branch_old, branch_root, climbs}
 use Rattle.split_tree.proofs.Homes.{listed_within}
 use Rattle.split_tree.proofs.Ledger.{numbered_more}
 use Rattle.split_tree.proofs.Picks.{subject_is}
-use Rattle.split_tree.proofs.Standing.{on_path_trans, on_path_before, on_path_after, owner_same, owner_root, owner_climbs, parent_below, new_branch, listed_stands, split_here, published_within}
+use Rattle.split_tree.proofs.Standing.{on_path_trans, on_path_before, owner_root, owner_climbs, new_branch, listed_stands, split_here, published_within}
 use Rattle.split_tree.proofs.Depends.{listed_after, child_some, chain_line, side_deps, numbered_old, numbered_new, same_self}
 use Rattle.backjump.specs.Cases.{IsSettledAt}
 

@@ -1,7 +1,7 @@
 -- The journal that is planned: the chain that closes a node, and the case steps that follow on its path.
 use Rattle.std.specs.Prelude.{◌%◌, ◌==◌, MatchOption, IsSomeAnd}
-use Rattle.std.proofs.Common.{◌≡◌, ℕ, zero, suc, ◌+◌, ◌*◌, ◌-◌, ◌/◌, ◌<◌, ◌≤◌, ◌⊎◌, inl, inr, Bool, true, false, cond, ◌&&◌, ◌||◌, eqb, ltb, List, [], ◌∷◌, ◌++◌, length, Option, Some, None, refl, sym, ◌∙◌, ap, subst, arith, eq-eqb, length-append}
-use Rattle.std.proofs.lemmas.Bool.{or_cases, or_left, or_right, eqb-true, cases_Bool, cases_lt, cond-true, cond-false, false≢true, false_from_ne_true, eqb-false}
+use Rattle.std.proofs.Common.{◌≡◌, ℕ, zero, suc, ◌+◌, ◌*◌, ◌-◌, ◌/◌, ◌<◌, ◌≤◌, ◌⊎◌, inl, inr, true, false, eqb, List, [], ◌∷◌, ◌++◌, length, Option, Some, None, refl, sym, ◌∙◌, ap, subst, arith, length-append}
+use Rattle.std.proofs.lemmas.Bool.{or_cases, or_right, eqb-true, cases_Bool, cond-true, cond-false, false≢true, false_from_ne_true, eqb-false}
 use Rattle.std.specs.List.{slice_get}
 use Rattle.spl_terms.specs.Clauses.{is_empty}
 use Rattle.dep_sets.specs.declared.deps.Assumption.{Assumption}
@@ -25,11 +25,11 @@ use Rattle.split_tree.proofs.Ledger.{numbered_more}
 use Rattle.split_tree.proofs.Lists.{numbered_get}
 use Rattle.split_tree.proofs.Standing.{on_path_trans, parent_below}
 use Rattle.split_tree.proofs.Depends.{numbered_new, split_listed}
-use Rattle.backjump.specs.Cases.{case_line, IsCaseEntry, OnlyCloses, IsOpenOrProved, IsSettledAt, CanClose}
+use Rattle.backjump.specs.Cases.{case_line, OnlyCloses, IsOpenOrProved, IsSettledAt, CanClose}
 use Rattle.backjump.specs.declared.closing.Next.{Next}
 use Rattle.backjump.specs.Plans.{appended, twin_of, sided_line, IsNext, IsNextEvent, IsOneLine, IsPlan}
-use Rattle.backjump.proofs.Deaths.{with_line, on_path_le, owner_on, dead_below, dead_after, dead_before, new_empty, empty_before, listed_apart, settled_after}
-use Rattle.backjump.proofs.Pairs.{HasPair, pair_at}
+use Rattle.backjump.proofs.Deaths.{with_line, on_path_le, owner_on, dead_below, dead_before, new_empty, empty_before, listed_apart, settled_after}
+use Rattle.backjump.proofs.Pairs.{pair_at}
 use Rattle.backjump.proofs.Cases.{closing_legal, open_or_proved, still_open}
 use Rattle.backjump.proofs.Steps.{closes_trans, one_entry}
 

@@ -4,3 +4,4 @@ pub mod Cases
 pub mod Steps
 pub mod Root
 pub mod Follow
+pub mod JournalSamples

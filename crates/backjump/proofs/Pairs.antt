@@ -1,6 +1,6 @@
 -- The children of a node have two numbers of which the first is odd, and the next.
-use Rattle.std.proofs.Common.{◌≡◌, ℕ, zero, suc, ◌+◌, ◌*◌, ◌-◌, ◌<◌, ◌≤◌, ◌⊎◌, inl, inr, Bool, true, false, cond, not, ◌&&◌, eqb, List, [], ◌∷◌, Option, Some, refl, sym, ◌∙◌, ap, arith, eq-eqb}
-use Rattle.std.proofs.lemmas.Bool.{and_cases, and_left, and_right, eqb-true, cases_Bool, cases_lt, cond-true, cond-false, false≢true, ne_eqb, not-false}
+use Rattle.std.proofs.Common.{◌≡◌, ℕ, ◌+◌, ◌*◌, ◌<◌, ◌≤◌, inl, inr, true, false, cond, not, eqb, List, [], ◌∷◌, Some, refl, sym, ◌∙◌, ap, arith, eq-eqb}
+use Rattle.std.proofs.lemmas.Bool.{and_cases, and_left, and_right, eqb-true, cases_lt, cond-true, cond-false, false≢true, ne_eqb, not-false}
 use Rattle.split_tree.specs.declared.event.Entry.{Entry}
 use Rattle.split_tree.specs.declared.event.Event.{Event}
 use Rattle.split_tree.specs.declared.event.Event.TheVariants.{Split}

@@ -1,10 +1,10 @@
 -- The root is on each path.
-use Rattle.std.proofs.Common.{◌≡◌, ℕ, zero, suc, ◌+◌, ◌<◌, ◌≤◌, inl, inr, Bool, true, false, ◌||◌, eqb, List, [], ◌∷◌, refl, sym, ◌∙◌, ap, arith, eq-eqb}
+use Rattle.std.proofs.Common.{◌≡◌, ℕ, ◌<◌, true, eqb, List, [], ◌∷◌, arith, eq-eqb}
 use Rattle.std.proofs.lemmas.Bool.{or_right}
 use Rattle.split_tree.specs.declared.event.Entry.{Entry}
 use Rattle.split_tree.specs.Journal.{Setting, nodes}
 use Rattle.split_tree.specs.Paths.{stem, on_path}
-use Rattle.split_tree.specs.Facts.{IsDead, IsLive}
+use Rattle.split_tree.specs.Facts.{IsLive}
 use Rattle.split_tree.specs.Legal.{IsLegalJournal}
 use Rattle.split_tree.proofs.Places.{stem_there}
 use Rattle.backjump.proofs.Deaths.{dead_below}

@@ -1,6 +1,6 @@
 -- What a step keeps that closes the node above a pair of children, and when the tree is settled.
 use Rattle.std.specs.Prelude.{IfOk, Result, Ok, Err}
-use Rattle.std.proofs.Common.{◌≡◌, ℕ, zero, suc, ◌+◌, ◌*◌, ◌-◌, ◌<◌, ◌≤◌, inl, inr, Bool, true, false, cond, not, ◌&&◌, eqb, List, [], ◌∷◌, ◌++◌, length, Option, Some, None, refl, sym, ◌∙◌, ap, subst, arith, eq-eqb, append_assoc}
+use Rattle.std.proofs.Common.{◌≡◌, ℕ, zero, suc, ◌+◌, ◌*◌, ◌<◌, ◌≤◌, inl, inr, true, false, not, List, [], ◌∷◌, ◌++◌, Some, None, refl, sym, ◌∙◌, ap, subst, arith, eq-eqb, append_assoc}
 use Rattle.std.proofs.lemmas.Bool.{and_left, and_right, cases_lt, eqb-true, false≢true}
 use Rattle.std.specs.List.{slice_get}
 use Rattle.spl_terms.specs.Clauses.{is_empty}
@@ -13,7 +13,7 @@ use Rattle.split_tree.specs.declared.event.Event.{Event}
 use Rattle.split_tree.specs.declared.event.Event.TheVariants.{Publish, Split}
 use Rattle.split_tree.specs.Journal.{Setting, nodes, nodes_of, steps, ledger}
 use Rattle.split_tree.specs.Paths.{on_path, branch, branch_by, branch_to, is_leaf, splits_node, owner, subject}
-use Rattle.split_tree.specs.Facts.{IsDead, IsLive}
+use Rattle.split_tree.specs.Facts.{IsLive}
 use Rattle.split_tree.specs.Ending.{first_end}
 use Rattle.split_tree.specs.Legal.{IsAsked, IsLegal, IsLegalJournal, IsSettled, IsChild, IsFirstEmpty}
 use Rattle.split_tree.proofs.Branches.{branch_old}
@@ -21,8 +21,8 @@ use Rattle.split_tree.proofs.Homes.{listed_within}
 use Rattle.split_tree.proofs.Depends.{split_listed}
 use Rattle.split_tree.proofs.Climb.{nodes_some, on_path-self}
 use Rattle.split_tree.proofs.Standing.{new_branch, parent_below}
-use Rattle.backjump.specs.Cases.{IsCaseEntry, OnlyCloses, IsOpenOrProved, IsSettledAt, IsSettledAbove, CanClose, IsPairStep, IsClosingEvent, case_line}
-use Rattle.backjump.proofs.Deaths.{owner_on, on_path_le, with_line, dead_after, new_empty, settled_after}
+use Rattle.backjump.specs.Cases.{IsCaseEntry, OnlyCloses, IsSettledAt, IsSettledAbove, CanClose, IsPairStep, IsClosingEvent, case_line}
+use Rattle.backjump.proofs.Deaths.{owner_on, on_path_le, with_line, new_empty, settled_after}
 use Rattle.backjump.proofs.Pairs.{HasPair, pairs, inner_pair}
 use Rattle.backjump.proofs.Cases.{closing_legal, open_or_proved, still_open}
 

@@ -1,8 +1,7 @@
 use Rattle.std.specs.List.{slice_get}
-use Rattle.std.proofs.Common.{◌≡◌, ◌+◌, ◌-◌, ◌<◌, ◌≤◌, ◌∙◌, ℕ, suc, List, [], ◌∷◌, Some, ap, sym, subst, arith, refl, length}
-use Rattle.split_tree.specs.declared.event.Entry.{Entry}
+use Rattle.std.proofs.Common.{◌≡◌, ◌≤◌, ◌∙◌, ℕ, suc, Some, ap, sym, subst, arith, refl, length}
 use Rattle.split_tree.specs.declared.event.Event.{Event}
-use Rattle.split_tree.specs.Legal.{IsLegal, IsLegalJournal}
+use Rattle.split_tree.specs.Legal.{IsLegalJournal}
 use Rattle.backjump.specs.Plans.{appended, IsOneLine}
 use Rattle.backjump.proofs.Follow.{appended_legal, cost_one, lines_one}
 use Rattle.backjump.proofs.closing.append_all.Goals as goal

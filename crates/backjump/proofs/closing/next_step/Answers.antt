@@ -1,5 +1,4 @@
-use Rattle.std.proofs.Common.{◌≡◌, ◌<◌, arith, sym, subst}
-use Rattle.split_tree.specs.Facts.{IsLive}
+use Rattle.std.proofs.Common.{arith}
 use Rattle.split_tree.proofs.Homes.{listed_within}
 use Rattle.backjump.proofs.Follow.{twin_there, parent_read, next_event}
 use Rattle.backjump.proofs.closing.next_step.Goals as goal

@@ -1,6 +1,6 @@
-use Rattle.std.proofs.Common.{◌≡◌, ◌+◌, ◌*◌, ◌∙◌, ap, sym, subst}
+use Rattle.std.proofs.Common.{◌+◌, ◌*◌, ◌∙◌, sym, subst}
 use Rattle.backjump.specs.Cases.{IsSettledAbove}
-use Rattle.backjump.proofs.Steps.{closed_by, none_added}
+use Rattle.backjump.proofs.Steps.{closed_by}
 use Rattle.backjump.proofs.settling.close_pair.Goals as goal
 
 pub returns-clause-step : goal.returns-clause-step

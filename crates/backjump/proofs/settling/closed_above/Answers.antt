@@ -1,7 +1,5 @@
-use Rattle.std.proofs.Common.{◌≡◌, ◌+◌, ◌*◌, ◌<◌, ◌∙◌, ℕ, ap, sym, subst, arith}
-use Rattle.split_tree.specs.Journal.{nodes}
+use Rattle.std.proofs.Common.{◌≡◌, ◌+◌, ◌*◌, subst, arith}
 use Rattle.split_tree.specs.Paths.{branch_to}
-use Rattle.split_tree.specs.Legal.{IsChild, IsFirstEmpty}
 use Rattle.backjump.proofs.Pairs.{pair_at}
 use Rattle.split_tree.specs.Facts.{IsLive}
 use Rattle.backjump.proofs.Steps.{settled_left, settled_right, can_close}

@@ -1,4 +1,4 @@
-use Rattle.std.proofs.Common.{◌≡◌, ◌+◌, ◌*◌, ◌-◌, ◌<◌, ◌≤◌, ◌∙◌, ℕ, inl, ap, sym, subst, arith}
+use Rattle.std.proofs.Common.{◌-◌, ◌∙◌, inl, ap, subst, arith}
 use Rattle.split_tree.specs.Facts.{IsLive}
 use Rattle.backjump.proofs.Pairs.{pairs}
 use Rattle.backjump.proofs.Steps.{none_added, closes_trans, settled_from, all_settled}
