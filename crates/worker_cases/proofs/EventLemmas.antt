@@ -17,43 +17,54 @@ use Rattle.split_tree.specs.declared.event.Event.TheVariants.{Claim, Choose, Pub
 use Rattle.split_tree.specs.declared.event.End.{End}
 use Rattle.split_tree.specs.declared.event.End.TheVariants.{Proved, Memory}
 use Rattle.split_tree.specs.State.{State}
-use Rattle.split_tree.specs.Journal.{Setting, ledger, nodes, rounds, steps}
+use Rattle.split_tree.specs.Journal.{Setting, ledger, nodes, rounds, splits, steps}
 use Rattle.split_tree.specs.Paths.{owner, is_leaf, on_path}
 use Rattle.split_tree.specs.Facts.{listed, kept, worked, chosen, chosen_by, claimed, is_number, is_stop, has_stopped, cost_of, IsLive, IsEmptyAt, Holds, before_choice, inferred, is_case_rule, published_since}
 use Rattle.split_tree.specs.Picking.{pick_at, is_passive}
 use Rattle.split_tree.specs.Ending.{first_end, or_else, end_by, no_assumptions, has_empty, reason}
-use Rattle.split_tree.specs.Legal.{IsLegal, IsPair, IsPartner, IsPremise, IsListed}
+use Rattle.split_tree.specs.Legal.{IsLegal, IsClaimable, IsPair, IsPartner, IsPremise, IsListed}
 use Rattle.split_tree.proofs.Climb.{on_path-self}
 use Rattle.split_tree.proofs.Picks.{pick_passive}
 use Rattle.split_tree.proofs.Homes.{listed_within}
 use Rattle.worker_cases.specs.Covering.{IsNumber, Grows}
-use Rattle.worker_cases.specs.Filing.{IsOneMore}
-use Rattle.worker_cases.specs.Working.{listing, IsSound, IsWorking, IsIdle, IsBusy, ArePartners, IsMate, IsNewLine, IsStep}
+use Rattle.worker_cases.specs.Working.{listing, IsSound, IsOpen, IsBetween, IsWorking, IsIdle, IsBusy, ArePartners, IsMate, IsNewLine, IsStep}
 use Rattle.worker_cases.proofs.FilingLemmas.{numbered_left, numbered_last, numbered_within}
-use Rattle.worker_cases.proofs.PathLemmas.{owner_on_path}
-use Rattle.worker_cases.proofs.TreeLemmas.{KeepsTree, settled_keeps, quiet_tree, quiet_listing, publish_tree, published, publishes_here, publishes_old, publish_grows, publish_more}
+use Rattle.backjump.proofs.Deaths.{owner_on}
+use Rattle.worker_cases.proofs.PathLemmas.{worked_listed}
+use Rattle.worker_cases.proofs.TreeLemmas.{KeepsTree, settled_keeps, quiet_tree, quiet_listing, publish_tree, published, publishes_here, publishes_old, publish_grows}
 use Rattle.worker_cases.proofs.CoverLemmas.{grows_self, grows_more, number_grows}
 
-pub working_keeps : (s : Setting) (old new : List Entry) (m : ℕ) → KeepsTree s old new → IsSound s new → first_end new ≡ None → claimed new 1 ≡ claimed old 1 → ((n : ℕ) → (n ≡ m → ⊥) → chosen new n ≡ chosen old n) → ((n : ℕ) → worked new m n ≡ true → listed s new m n ≡ true) → IsWorking s old m → IsWorking s new m
-working_keeps s old new m k sound unended claims others kept w = record {
-  sound = sound;
-  some = w.some;
-  unsplit = w.unsplit;
-  unended = unended;
+pub open_keeps : (s : Setting) (old new : List Entry) → KeepsTree s old new → IsSound s new → first_end new ≡ None → IsOpen s old → IsOpen s new
+open_keeps s old new k sound unended r = record { sound = sound; one = r.one; nonempty = r.nonempty; unended = unended; settled = settled_keeps s old new k r.settled }
+
+pub working_keeps : (s : Setting) (old new : List Entry) (m : ℕ) → KeepsTree s old new → IsSound s new → first_end new ≡ None → claimed new 1 ≡ claimed old 1 → ((n : ℕ) → (n ≡ m → ⊥) → chosen new n ≡ chosen old n) → IsWorking s old m → IsWorking s new m
+working_keeps s old new m k sound unended claims others w = record {
+  rests = open_keeps s old new k sound unended w.rests;
   there = subst (λ c. m < c) (sym k.count) w.there;
   holds = record { claims = claims ∙ w.holds.claims; leaf = k.leaf m ∙ w.holds.leaf; live = λ d. w.holds.live (k.dead m d) };
-  settled = settled_keeps s old new k w.settled;
   others = λ n there leaf live other. others n other ∙ w.others n (subst (λ c. n < c) k.count there) (sym (k.leaf n) ∙ leaf) (λ d. live (k.stays n d)) other;
-  kept = kept;
 }
 
--- ---- claiming the root
+-- ---- claiming
 
-nothing_before : (o : Option End) → or_else None o ≡ o
-nothing_before o = refl
+abbrev pub after_claim : List Entry → ℕ → List Entry
+after_claim past m = record { by = 1; event = Claim m } ∷ past
 
-abbrev pub claimed_root : List Entry
-claimed_root = record { by = 1; event = Claim 0 } ∷ []
+unended_claim : (past : List Entry) (m : ℕ) → first_end past ≡ None → first_end (after_claim past m) ≡ None
+unended_claim past m e = ap (λ o. or_else o None) e
+
+pub claim_idle : (s : Setting) (past : List Entry) (m : ℕ) → IsBetween s past → IsClaimable s past m → IsSound s (after_claim past m) → IsIdle s (after_claim past m) m
+claim_idle s past m h c sound =
+    let k = quiet_tree s past 1 (Claim m) refl in
+    record {
+      working = record {
+        rests = open_keeps s past (after_claim past m) k sound (unended_claim past m h.rests.unended) h.rests;
+        there = subst (λ x. m < x) (sym k.count) c.there;
+        holds = record { claims = refl; leaf = c.leaf; live = λ d. c.live (k.dead m d) };
+        others = λ n there leaf live other. h.free n (subst (λ x. n < x) k.count there) leaf (λ d. live (k.stays n d)) (λ x. x);
+      };
+      free = h.free m c.there c.leaf c.live (λ x. x);
+    }
 
 -- ---- choosing
 
@@ -89,7 +100,7 @@ choice_busy s past m clause h picked sound =
     let new = after_choice past m clause in
     let passive = pick_passive s past m clause picked in
     record {
-      working = working_keeps s past new m (quiet_tree s past 1 (Choose m clause None) refl) sound (unended_choice past m clause w.unended) refl (λ n other. chosen_elsewhere past m clause n other) (λ n e. w.kept n e) w;
+      working = working_keeps s past new m (quiet_tree s past 1 (Choose m clause None) refl) sound (unended_choice past m clause w.rests.unended) refl (λ n other. chosen_elsewhere past m clause n other) w;
       chosen = chosen_here past m clause;
       lists = (and_parts (kept s past m clause) _ passive).0;
       before = λ c e. listed_quiet s past m clause c (subst (λ p. IsListed s p m c) (before_here past m clause) e);
@@ -97,14 +108,14 @@ choice_busy s past m clause h picked sound =
     }
 
 pub choice_partners : (s : Setting) (past : List Entry) (m clause : ℕ) → IsIdle s past m → ArePartners s (after_choice past m clause) m
-choice_partners s past m clause h = λ n e. subst (λ p. IsPartner s p m n) (sym (before_here past m clause)) (record { worked = e; kept = h.working.kept n e })
+choice_partners s past m clause h = λ n e. subst (λ p. IsPartner s p m n) (sym (before_here past m clause)) (record { worked = e; kept = worked_listed s past h.working.rests.sound.legal m n h.working.there e })
 
 -- ---- activating
 
 abbrev pub after_activation : List Entry → ℕ → List Entry
 after_activation past m = record { by = 1; event = Activate m } ∷ past
 
-number_is : (o : Option ℕ) (clause n : ℕ) → o ≡ Some clause → is_number o n ≡ true → n ≡ clause
+pub number_is : (o : Option ℕ) (clause n : ℕ) → o ≡ Some clause → is_number o n ≡ true → n ≡ clause
 number_is o clause n e h = sym (eqb-true clause n (subst (λ p. is_number p n ≡ true) e h))
 
 pub worked_cases : (past : List Entry) (m clause n : ℕ) → chosen past m ≡ Some clause → worked (after_activation past m) m n ≡ true → (worked past m n ≡ true) ⊎ (n ≡ clause)
@@ -129,12 +140,8 @@ pub activation_idle : (s : Setting) (past : List Entry) (m clause : ℕ) → IsB
 activation_idle s past m clause h sound =
     let w = h.working in
     let new = after_activation past m in
-    let kept' : (n : ℕ) → worked new m n ≡ true → listed s new m n ≡ true = λ n e. elim (worked_cases past m clause n h.chosen e) [
-      | inl before ↦ w.kept n before
-      | inr own ↦ subst (λ k. listed s past m k ≡ true) (sym own) h.lists
-    ] in
     record {
-      working = working_keeps s past new m (quiet_tree s past 1 (Activate m) refl) sound (unended_activation past m w.unended) refl (λ n other. free_elsewhere past m n other) kept' w;
+      working = working_keeps s past new m (quiet_tree s past 1 (Activate m) refl) sound (unended_activation past m w.rests.unended) refl (λ n other. free_elsewhere past m n other) w;
       free = cond-true (m == m) None (chosen past m) (eq-eqb m m refl);
     }
 
@@ -166,15 +173,15 @@ pub publish_busy : (s : Setting) (past : List Entry) (m clause node : ℕ) (l : 
 publish_busy s past m clause node l h new at full sound =
     let w = h.working in
     let then' = published 1 node l ∷ past in
-    let on : on_path past m node ≡ true = subst (λ x. on_path past m x ≡ true) (sym at) (owner_on_path s past w.sound.legal l.stated.deps m w.there) in
+    let on : on_path past m node ≡ true = subst (λ x. on_path past m x ≡ true) (sym at) (owner_on s past w.rests.sound.legal l.stated.deps m w.there) in
     record {
-      working = working_keeps s past then' m (publish_tree s past 1 node l w.sound.legal full) sound (unended_empty (is_empty l.stated.clause) l.stated.deps (first_end past) full w.unended) refl (λ n other. refl) (λ n e. publishes_old s past 1 node l m n (w.kept n e)) w;
+      working = working_keeps s past then' m (publish_tree s past 1 node l w.rests.sound.legal full) sound (unended_empty (is_empty l.stated.clause) l.stated.deps (first_end past) full w.rests.unended) refl (λ n other. refl) w;
       chosen = h.chosen;
       lists = publishes_old s past 1 node l m clause h.lists;
-      before = λ c e. listed_published s past m node l c w.sound (h.before c e);
+      before = λ c e. listed_published s past m node l c w.rests.sound (h.before c e);
       since = λ c e. elim (one_of l.stated.clause (published_since past 1 m) c (subst (λ cs. Contains cs c) (since_published past m node l (not_case l new.i new.part new.j new.first new.second new.step)) e)) [
         | inl own ↦ subst (IsListed s then' m) own (listed_own s past m node l on)
-        | inr before ↦ listed_published s past m node l c w.sound (h.since c before)
+        | inr before ↦ listed_published s past m node l c w.rests.sound (h.since c before)
       ];
     }
 
@@ -184,7 +191,7 @@ pub moved : (P : Setting → List Entry → Type 0) (s s' : Setting) (past past'
 moved P s s' past past' e f h = subst (λ p. P s' p) (sym f) (subst (λ x. P x past) (sym e) h)
 
 pub step_self : (t : State) (m clause : ℕ) → IsBusy t.setting t.past m clause → IsStep t t m clause
-step_self t m clause h = record { setting = refl; busy = h; grows = grows_self (listing t.setting t.past m); choice = refl; worked = λ n. refl; rounds = refl }
+step_self t m clause h = record { setting = refl; busy = h; grows = grows_self (listing t.setting t.past m); choice = refl; worked = λ n. refl; splits = refl }
 
 pub step_more : (a b c : State) (m clause : ℕ) → IsStep a b m clause → IsStep b c m clause → IsStep a c m clause
 step_more a b c m clause f g = record {
@@ -193,17 +200,7 @@ step_more a b c m clause f g = record {
   grows = grows_more (listing a.setting a.past m) (listing b.setting b.past m) (listing c.setting c.past m) f.grows g.grows;
   choice = g.choice ∙ f.choice;
   worked = λ n. g.worked n ∙ f.worked n;
-  rounds = g.rounds ∙ f.rounds;
-}
-
-pub step_same : (old new : State) (m clause : ℕ) → IsBusy old.setting old.past m clause → new.setting ≡ old.setting → new.past ≡ old.past → IsStep old new m clause
-step_same old new m clause h e f = record {
-  setting = e;
-  busy = moved (λ s p. IsBusy s p m clause) old.setting new.setting old.past new.past e f h;
-  grows = moved (λ s p. Grows (listing old.setting old.past m) (listing s p m)) old.setting new.setting old.past new.past e f (grows_self (listing old.setting old.past m));
-  choice = ap (λ p. before_choice p m) f;
-  worked = λ n. ap (λ p. worked p m n) f;
-  rounds = ap rounds f;
+  splits = g.splits ∙ f.splits;
 }
 
 pub publish_step : (old new : State) (m clause node : ℕ) (l : Line) → IsBusy old.setting old.past m clause → IsNewLine old.setting old.past m clause l → node ≡ owner old.past l.stated.deps m → is_empty l.stated.clause ≡ false → new.setting ≡ old.setting → new.past ≡ published 1 node l ∷ old.past → IsSound new.setting new.past → IsStep old new m clause
@@ -217,18 +214,18 @@ publish_step old new m clause node l h fresh at full e f sound =
       grows = moved (λ x p. Grows (listing s past m) (listing x p m)) s new.setting (published 1 node l ∷ past) new.past e f (publish_grows s past 1 node l m);
       choice = ap (λ p. before_choice p m) f;
       worked = λ n. ap (λ p. worked p m n) f;
-      rounds = ap rounds f ∙ (let same : rounds past + 0 ≡ rounds past = omega arith in same);
+      splits = ap splits f ∙ (let same : splits past + 0 ≡ splits past = omega arith in same);
     }
 
-pub publish_one_more : (old new : State) (m clause node : ℕ) (l : Line) → IsBusy old.setting old.past m clause → node ≡ owner old.past l.stated.deps m → new.setting ≡ old.setting → new.past ≡ published 1 node l ∷ old.past → IsOneMore (listing old.setting old.past m) (listing new.setting new.past m) (steps new.setting new.past) l
-publish_one_more old new m clause node l h at e f =
+pub publish_listed : (old new : State) (m clause node : ℕ) (l : Line) → IsBusy old.setting old.past m clause → node ≡ owner old.past l.stated.deps m → new.setting ≡ old.setting → new.past ≡ published 1 node l ∷ old.past → listed new.setting new.past m (steps new.setting new.past) ≡ true
+publish_listed old new m clause node l h at e f =
     let s = old.setting in
     let past = old.past in
     let w = h.working in
-    let on : on_path past m node ≡ true = subst (λ x. on_path past m x ≡ true) (sym at) (owner_on_path s past w.sound.legal l.stated.deps m w.there) in
+    let on : on_path past m node ≡ true = subst (λ x. on_path past m x ≡ true) (sym at) (owner_on s past w.rests.sound.legal l.stated.deps m w.there) in
     let long : steps s past + 1 ≡ steps s (published 1 node l ∷ past) = omega (arith, length-append (ledger s past) (l ∷ [])) in
-    moved (λ x p. IsOneMore (listing s past m) (listing x p m) (steps x p) l) s new.setting (published 1 node l ∷ past) new.past e f
-    (subst (λ n. IsOneMore (listing s past m) (listing s (published 1 node l ∷ past) m) n l) long (publish_more s past 1 node l m w.sound.legal on))
+    moved (λ x p. listed x p m (steps x p) ≡ true) s new.setting (published 1 node l ∷ past) new.past e f
+      (subst (λ n. listed s (published 1 node l ∷ past) m n ≡ true) long (publishes_here s past 1 node l m on))
 
 -- ---- whether a clause is empty
 

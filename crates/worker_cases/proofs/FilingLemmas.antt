@@ -14,7 +14,7 @@ use Rattle.proof_steps.specs.Steps.{numbered}
 use Rattle.worker_cases.specs.Covering.{Listing, IsNew}
 use Rattle.worker_cases.specs.declared.filing.Entry.{Entry}
 use Rattle.worker_cases.specs.declared.filing.Filing.{Filing}
-use Rattle.worker_cases.specs.Filing.{key, first_key, clause_key, before_arrow, after_arrow, HasKey, IsNewest, IsLinked, IsFiled, AreFiled, AreListed, IsOneMore, IsAdded, HasFiled, HasFiledUpto, HasNoSubclause, AreNoSubclauses}
+use Rattle.worker_cases.specs.Filing.{key, first_key, clause_key, before_arrow, after_arrow, HasKey, IsNewest, IsLinked, IsFiled, AreFiled, IsAdded, HasFiled, HasFiledFirst, HasNoSubclause, AreNoSubclauses}
 use Rattle.worker_cases.proofs.Lists.{get_left, get_snoc}
 
 -- ---- entries by number
@@ -46,6 +46,11 @@ numbered_last {A} xs y = let one : suc (length xs) ≡ length xs + 1 = omega ari
     last : (xs : List A) → numbered (xs ++ y ∷ []) (suc (length xs)) ≡ Some y
     last [] = refl
     last (x ∷ xs) = last xs
+
+pub last_numbered : {A : Type 0} (xs ys : List A) (y : A) → ys ≡ xs ++ y ∷ [] → numbered ys (length ys) ≡ Some y
+last_numbered {A} xs ys y e =
+    let long : length ys ≡ length xs + 1 = ap length e ∙ length-append xs (y ∷ []) in
+    ap (λ zs. numbered zs (length ys)) e ∙ ap (numbered (xs ++ y ∷ [])) long ∙ numbered_last xs y
 
 -- ---- the newest entry of a key
 
@@ -124,84 +129,63 @@ none_linked filing rule items = record {
 pub filed_left : (es : List Entry) (e : Entry) (key value : ℕ) → IsFiled es key value → IsFiled (es ++ e ∷ []) key value
 filed_left es e key value h = (h.0, h.1, numbered_left es e h.0 (numbered_within es h.0 h.1 h.2).1 ∙ h.2, h.3, h.4)
 
-pub has_filed_same : (at : Listing) (old new : Filing) → HasFiled at old → IsLinked new → new.entries.items ≡ old.entries.items → HasFiled at new
-has_filed_same at old new h l items = record { linked = l; filed = subst (λ es. AreFiled es at) (sym items) h.filed; only = subst (λ es. AreListed es at) (sym items) h.only }
-
-only_cases : (es : List Entry) (e : Entry) (at : Listing) (key v : ℕ) → AreListed es at → at.lists e.value ≡ true → IsFiled (es ++ e ∷ []) key v → at.lists v ≡ true
-only_cases es e at key v h own f = elim (numbered_snoc es e f.0 f.1 f.2) [
-  | inl b ↦ h key v (f.0, f.1, b.1, f.3, f.4)
-  | inr a ↦ subst (λ n. at.lists n ≡ true) (ap (λ (x : Entry). x.value) a.1 ∙ f.4) own
-]
-
-filed_cases : (es : List Entry) (e : Entry) (old new : Listing) (line : Line) → e.key ≡ clause_key line.stated.clause → IsOneMore old new e.value line → AreFiled es old → AreFiled (es ++ e ∷ []) new
-filed_cases es e old new line k more h n l on at = elim (more.cases n l on at) [
-  | inl b ↦ filed_left es e (clause_key l.stated.clause) n (h n l b.0 b.1)
-  | inr a ↦ (length es + 1, e, numbered_last es e, k ∙ ap (λ (x : Line). clause_key x.stated.clause) a.1, sym a.0)
-]
-
-pub has_filed_more : (old new : Listing) (line : Line) (a b : Filing) (key value : ℕ) → key ≡ clause_key line.stated.clause → IsOneMore old new value line → HasFiled old a → IsLinked b → IsAdded a.entries.items b.entries.items key value → HasFiled new b
-has_filed_more old new line a b key value k more h l added = record {
-  linked = l;
-  filed = subst (λ es. AreFiled es new) (sym added.last) (filed_cases a.entries.items _ old new line k more h.filed);
-  only = subst (λ es. AreListed es new) (sym added.last) (λ q v f. only_cases a.entries.items _ new q v (λ q v f. more.grows v (h.only q v f)) more.own f);
-}
-
 -- ---- filing one line after another
 
-pub upto_none : (at : Listing) (filing : Filing) → IsLinked filing → filing.entries.items ≡ [] → HasFiledUpto at 0 filing
-upto_none at filing l empty = record {
-  linked = l;
-  filed = λ n m low on is. absurd (omega (arith, low, numbered_within at.lines n m is));
-  only = λ key v f. absurd (omega (arith, numbered_within filing.entries.items f.0 f.1 f.2, ap length empty));
-}
+added_length : (old new : List Entry) (key value : ℕ) → IsAdded old new key value → length new ≡ length old + 1
+added_length old new key value a = ap length a.last ∙ length-append old (record { key = key; value = value; older = a.older } ∷ [])
 
-pub upto_skip : (at : Listing) (number : ℕ) (filing : Filing) → at.lists number ≡ false → HasFiledUpto at (number - 1) filing → HasFiledUpto at number filing
-upto_skip at number filing off h = record {
-  linked = h.linked;
-  filed = λ n l low on is. elim (cases_lt n number) [
-    | inl less ↦ h.filed n l (omega (arith, less)) on is
-    | inr more ↦ absurd (
-        let same : n ≡ number = omega (arith, low, more) in
-        let x : true ≡ false = sym on ∙ ap at.lists same ∙ off in cc)
-  ];
-  only = h.only;
-}
+pub first_none : (lines : List Line) (filing : Filing) → filing.entries.items ≡ [] → IsLinked filing → HasFiledFirst lines filing
+first_none lines filing empty l = record { linked = l; filed = λ n m low is. absurd (omega (arith, low, ap length empty, numbered_within lines n m is)) }
 
-pub upto_more : (at : Listing) (number : ℕ) (line : Line) (a b : Filing) (key : ℕ) → at.lists number ≡ true → numbered at.lines number ≡ Some line → key ≡ clause_key line.stated.clause → HasFiledUpto at (number - 1) a → IsLinked b → IsAdded a.entries.items b.entries.items key number → HasFiledUpto at number b
-upto_more at number line a b key on is k h l added = record {
-  linked = l;
-  filed = λ n m low lists found. subst (λ es. IsFiled es (clause_key m.stated.clause) n) (sym added.last) (elim (cases_lt n number) [
-    | inl less ↦ filed_left a.entries.items _ (clause_key m.stated.clause) n (h.filed n m (omega (arith, less)) lists found)
-    | inr more ↦
-        let same : number ≡ n = omega (arith, low, more) in
-        let line_is : line ≡ m = (let x : Some line ≡ Some m = sym is ∙ ap (numbered at.lines) same ∙ found in cc) in
-        (length a.entries.items + 1, _, numbered_last a.entries.items _, k ∙ ap (λ (x : Line). clause_key x.stated.clause) line_is, same)
-  ]);
-  only = subst (λ es. AreListed es at) (sym added.last) (λ q v f. only_cases a.entries.items _ at q v h.only on f);
-}
+pub first_more : (lines : List Line) (number : ℕ) (line : Line) (a b : Filing) (key : ℕ) → 1 ≤ number → numbered lines number ≡ Some line → key ≡ clause_key line.stated.clause → HasFiledFirst lines a → length a.entries.items ≡ number - 1 → IsLinked b → IsAdded a.entries.items b.entries.items key number → HasFiledFirst lines b × (length b.entries.items ≡ number)
+first_more lines number line a b key some is k h long l added =
+    let whole : length b.entries.items ≡ number = omega (arith, added_length a.entries.items b.entries.items key number added, long, some) in
+    (record {
+      linked = l;
+      filed = λ n m low found. subst (λ es. IsFiled es (clause_key m.stated.clause) n) (sym added.last) (elim (cases_lt n number) [
+        | inl less ↦ filed_left a.entries.items _ (clause_key m.stated.clause) n (h.filed n m (omega (arith, less, long)) found)
+        | inr more ↦
+            let same : number ≡ n = omega (arith, low, more, whole) in
+            let line_is : line ≡ m = (let x : Some line ≡ Some m = sym is ∙ ap (numbered lines) same ∙ found in cc) in
+            (length a.entries.items + 1, _, numbered_last a.entries.items _, k ∙ ap (λ (x : Line). clause_key x.stated.clause) line_is, same)
+      ]);
+    }, whole)
 
-pub upto_all : (at : Listing) (last : ℕ) (filing : Filing) → length at.lines ≤ last → HasFiledUpto at last filing → HasFiled at filing
-upto_all at last filing long h = record { linked = h.linked; filed = λ n l on is. h.filed n l (omega (arith, long, numbered_within at.lines n l is)) on is; only = h.only }
+pub first_all : (lines : List Line) (filing : Filing) → length lines ≤ length filing.entries.items → length filing.entries.items ≤ length lines → HasFiledFirst lines filing → HasFiled lines filing
+first_all lines filing long few h = record { linked = h.linked; filed = λ n l is. h.filed n l (omega (arith, long, numbered_within lines n l is)) is; whole = omega (arith, long, few) }
+
+-- one more line was filed, as it was added to the ledger
+pub has_filed_more : (lines new : List Line) (line : Line) (a b : Filing) (key value : ℕ) → new ≡ lines ++ line ∷ [] → key ≡ clause_key line.stated.clause → value ≡ length new → HasFiled lines a → IsLinked b → IsAdded a.entries.items b.entries.items key value → HasFiled new b
+has_filed_more lines new line a b key value is k v h l added =
+    let long : length new ≡ length lines + 1 = ap length is ∙ length-append lines (line ∷ []) in
+    record {
+      linked = l;
+      filed = λ n m found. subst (λ es. IsFiled es (clause_key m.stated.clause) n) (sym added.last) (elim (numbered_snoc lines line n m (ap (λ ls. numbered ls n) (sym is) ∙ found)) [
+        | inl b ↦ filed_left a.entries.items _ (clause_key m.stated.clause) n (h.filed n m b.1)
+        | inr e ↦ (length a.entries.items + 1, _, numbered_last a.entries.items _, k ∙ ap (λ (x : Line). clause_key x.stated.clause) e.1, v ∙ long ∙ sym e.0)
+      ]);
+      whole = omega (arith, added_length a.entries.items b.entries.items key value added, h.whole, long);
+    }
 
 -- ---- looking for a subclause
 
 -- what was seen of the entries of the key, from the newest on
-pub record IsUnderWay (lines : List Line) (entries : List Entry) (key : ℕ) (c : Clause) (number : ℕ) : Type 0 where
+pub record IsUnderWay (ls : Listing) (entries : List Entry) (key : ℕ) (c : Clause) (number : ℕ) : Type 0 where
   pub within : number ≤ length entries
   pub own : 0 < number → HasKey entries key number
-  pub none : HasNoSubclause lines entries key number c
+  pub none : HasNoSubclause ls entries key number c
 
-pub under_way_from : (lines : List Line) (filing : Filing) (key number : ℕ) (c : Clause) → IsLinked filing → number ≡ unwrap_or (get nat_eq filing.newest key) 0 → IsUnderWay lines filing.entries.items key c number
-under_way_from lines filing key number c l is =
+pub under_way_from : (ls : Listing) (filing : Filing) (key number : ℕ) (c : Clause) → IsLinked filing → number ≡ unwrap_or (get nat_eq filing.newest key) 0 → IsUnderWay ls filing.entries.items key c number
+under_way_from ls filing key number c l is =
     let w : IsNewest filing.entries.items key (length filing.entries.items) number = subst (IsNewest filing.entries.items key (length filing.entries.items)) (sym is) (l.newest key) in
     record {
       within = w.within;
       own = w.own;
-      none = λ y e m less at same there. absurd (w.last y less (numbered_within filing.entries.items y e at).1 (e, at, same));
+      none = λ y e m less at same on there. absurd (w.last y less (numbered_within filing.entries.items y e at).1 (e, at, same));
     }
 
-pub under_way_more : (lines : List Line) (filing : Filing) (key number : ℕ) (e : Entry) (c : Clause) → IsLinked filing → numbered filing.entries.items number ≡ Some e → ((l : Line) → numbered lines e.value ≡ Some l → is_subclause l.stated.clause c ≡ false) → IsUnderWay lines filing.entries.items key c number → IsUnderWay lines filing.entries.items key c e.older
-under_way_more lines filing key number e c l at not_here u =
+pub under_way_more : (ls : Listing) (filing : Filing) (key number : ℕ) (e : Entry) (c : Clause) → IsLinked filing → numbered filing.entries.items number ≡ Some e → ((l : Line) → ls.lists e.value ≡ true → numbered ls.lines e.value ≡ Some l → is_subclause l.stated.clause c ≡ false) → IsUnderWay ls filing.entries.items key c number → IsUnderWay ls filing.entries.items key c e.older
+under_way_more ls filing key number e c l at not_here u =
     let p = numbered_within filing.entries.items number e at in
     let k = u.own p.0 in
     let same : k.0 ≡ e = (let s : Some k.0 ≡ Some e = sym k.1 ∙ at in cc) in
@@ -210,36 +194,36 @@ under_way_more lines filing key number e c l at not_here u =
     record {
       within = omega (arith, w.within, p.1);
       own = w.own;
-      none = λ y f m less is of there. elim (cases_lt number y) [
-        | inl after ↦ u.none y f m after is of there
+      none = λ y f m less is of on there. elim (cases_lt number y) [
+        | inl after ↦ u.none y f m after is of on there
         | inr before ↦ elim (cases_lt y number) [
           | inl earlier ↦ absurd (w.last y less (omega (arith, earlier)) (f, is, of))
           | inr here ↦
               let eq : y ≡ number = omega (arith, before, here) in
               let f_is : f ≡ e = (let s : Some f ≡ Some e = sym is ∙ ap (numbered filing.entries.items) eq ∙ at in cc) in
-              not_here m (subst (λ (f : Entry). numbered lines f.value ≡ Some m) f_is there)
+              not_here m (subst (λ (f : Entry). ls.lists f.value ≡ true) f_is on) (subst (λ (f : Entry). numbered ls.lines f.value ≡ Some m) f_is there)
         ]
       ];
     }
 
-pub older_below : (lines : List Line) (filing : Filing) (number : ℕ) (e : Entry) → IsLinked filing → numbered filing.entries.items number ≡ Some e → e.older < number
-older_below lines filing number e l at = omega (arith, (l.older number e at).within, numbered_within filing.entries.items number e at)
+pub older_below : (filing : Filing) (number : ℕ) (e : Entry) → IsLinked filing → numbered filing.entries.items number ≡ Some e → e.older < number
+older_below filing number e l at = omega (arith, (l.older number e at).within, numbered_within filing.entries.items number e at)
 
-pub under_way_ends : (lines : List Line) (entries : List Entry) (key number : ℕ) (c : Clause) → numbered entries number ≡ None → IsUnderWay lines entries key c number → HasNoSubclause lines entries key 0 c
-under_way_ends lines entries key zero c none u = u.none
-under_way_ends lines entries key (suc k) c none u =
+pub under_way_ends : (ls : Listing) (entries : List Entry) (key number : ℕ) (c : Clause) → numbered entries number ≡ None → IsUnderWay ls entries key c number → HasNoSubclause ls entries key 0 c
+under_way_ends ls entries key zero c none u = u.none
+under_way_ends ls entries key (suc k) c none u =
     let t = numbered_there entries (suc k) (omega arith) u.within in
     absurd (let s : None ≡ Some t.0 = sym none ∙ t.1 in cc)
 
-pub have_more : (lines : List Line) (entries : List Entry) (side i : ℕ) (atoms : List Atom) (x : Atom) (q : ℕ) (c : Clause) → slice_get atoms i ≡ Some x → q ≡ key side x → HasNoSubclause lines entries q 0 c
-    → ((k : ℕ) (a : Atom) → k < i → slice_get atoms k ≡ Some a → HasNoSubclause lines entries (key side a) 0 c)
-    → (k : ℕ) (a : Atom) → k < i + 1 → slice_get atoms k ≡ Some a → HasNoSubclause lines entries (key side a) 0 c
-have_more lines entries side i atoms x q c here is none before k a less at = elim (cases_lt k i) [
+pub have_more : (ls : Listing) (entries : List Entry) (side i : ℕ) (atoms : List Atom) (x : Atom) (q : ℕ) (c : Clause) → slice_get atoms i ≡ Some x → q ≡ key side x → HasNoSubclause ls entries q 0 c
+    → ((k : ℕ) (a : Atom) → k < i → slice_get atoms k ≡ Some a → HasNoSubclause ls entries (key side a) 0 c)
+    → (k : ℕ) (a : Atom) → k < i + 1 → slice_get atoms k ≡ Some a → HasNoSubclause ls entries (key side a) 0 c
+have_more ls entries side i atoms x q c here is none before k a less at = elim (cases_lt k i) [
   | inl earlier ↦ before k a earlier at
   | inr late ↦
       let eq : k ≡ i = omega (arith, less, late) in
       let a_is : x ≡ a = (let s : Some x ≡ Some a = sym here ∙ ap (slice_get atoms) (sym eq) ∙ at in cc) in
-      subst (λ k. HasNoSubclause lines entries k 0 c) (is ∙ ap (key side) a_is) none
+      subst (λ k. HasNoSubclause ls entries k 0 c) (is ∙ ap (key side) a_is) none
 ]
 
 -- ---- where no line is a subclause, no line states the clause
@@ -250,11 +234,11 @@ at_first P [] (x ∷ a) c zero_is one two three = two 0 x refl
 at_first P [] [] (x ∷ c) zero_is one two three = three 0 x refl
 at_first P [] [] [] zero_is one two three = zero_is
 
-pub none_stated : (at : Listing) (filing : Filing) (c : Clause) → HasFiled at filing → AreNoSubclauses at.lines filing.entries.items c → IsNew at c
-none_stated at filing c h none n l on is same =
-    let at_key : HasNoSubclause at.lines filing.entries.items (clause_key c) 0 c = at_first (λ k. HasNoSubclause at.lines filing.entries.items k 0 c) c.succedent c.antecedent c.constraint none.empty none.succedent none.antecedent none.constraint in
-    let f = h.filed n l on is in
-    let not_in = at_key f.0 f.1 l (numbered_within filing.entries.items f.0 f.1 f.2).0 f.2 (f.3 ∙ ap clause_key same) (ap (numbered at.lines) f.4 ∙ is) in
+pub none_stated : (ls : Listing) (filing : Filing) (c : Clause) → HasFiled ls.lines filing → AreNoSubclauses ls filing.entries.items c → IsNew ls c
+none_stated ls filing c h none n l on is same =
+    let at_key : HasNoSubclause ls filing.entries.items (clause_key c) 0 c = at_first (λ k. HasNoSubclause ls filing.entries.items k 0 c) c.succedent c.antecedent c.constraint none.empty none.succedent none.antecedent none.constraint in
+    let f = h.filed n l is in
+    let not_in = at_key f.0 f.1 l (numbered_within filing.entries.items f.0 f.1 f.2).0 f.2 (f.3 ∙ ap clause_key same) (ap ls.lists f.4 ∙ on) (ap (numbered ls.lines) f.4 ∙ is) in
     let within = equal_subclause l.stated.clause c same in
     (let x : true ≡ false = sym within ∙ not_in in cc)
 

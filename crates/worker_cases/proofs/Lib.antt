@@ -7,6 +7,8 @@ pub mod CoverLemmas
 pub mod VainLemmas
 pub mod TreeLemmas
 pub mod LegalLemmas
+pub mod IndexLemmas
 pub mod EventLemmas
+pub mod ClosingLemmas
 pub mod WorkLemmas
 pub mod RootLemmas

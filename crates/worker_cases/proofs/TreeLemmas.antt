@@ -16,7 +16,6 @@ use Rattle.split_tree.specs.Facts.{listed, IsEmptyAt, IsDead, IsLive}
 use Rattle.split_tree.specs.Legal.{IsLegalJournal, IsSettled}
 use Rattle.split_tree.proofs.Homes.{listed_within}
 use Rattle.worker_cases.specs.Covering.{Listing, Grows}
-use Rattle.worker_cases.specs.Filing.{IsOneMore}
 use Rattle.worker_cases.specs.Working.{listing}
 use Rattle.worker_cases.proofs.FilingLemmas.{numbered_left, numbered_last, numbered_snoc}
 use Rattle.worker_cases.proofs.CoverLemmas.{grows_self}
@@ -145,15 +144,4 @@ publish_grows s past w node l m = record {
   longer = omega (arith, length-append (ledger s past) (l ∷ []));
   keeps = λ k h. get_left (ledger s past) l k h;
   lists = λ n h. publishes_old s past w node l m n h;
-}
-
-pub publish_more : (s : Setting) (past : List Entry) (w node : ℕ) (l : Line) (m : ℕ) → IsLegalJournal s past → on_path past m node ≡ true → IsOneMore (listing s past m) (listing s (published w node l ∷ past) m) (steps s past + 1) l
-publish_more s past w node l m legal on = record {
-  own = publishes_here s past w node l m on;
-  found = numbered_last (ledger s past) l;
-  grows = λ n h. publishes_old s past w node l m n h;
-  cases = λ n k h at. elim (publishes_cases s past w node l m n h) [
-    | inl now ↦ inr (now.1, (let x : Some l ≡ Some k = sym (ap (numbered (ledger s past ++ l ∷ [])) now.1 ∙ numbered_last (ledger s past) l) ∙ at in cc))
-    | inr before ↦ inl (before, sym (numbered_left (ledger s past) l n (listed_within s past legal m n before).1) ∙ at)
-  ];
 }

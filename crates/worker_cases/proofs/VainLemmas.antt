@@ -1,5 +1,5 @@
 -- Lines that no atom leads to have no conclusion with a line.
-use Rattle.std.proofs.Common.{◌≡◌, ◌⊎◌, inl, inr, ℕ, zero, suc, Bool, true, false, ◌&&◌, List, [], ◌∷◌, ◌++◌, Option, Some, None, option_map, refl, sym, ap, ◌∙◌, subst, arith}
+use Rattle.std.proofs.Common.{◌≡◌, ◌⊎◌, inl, inr, ℕ, zero, suc, Bool, true, false, ◌&&◌, List, [], ◌∷◌, ◌++◌, length, ◌<◌, ◌≤◌, Option, Some, None, option_map, refl, sym, ap, ◌∙◌, subst, arith, length-append}
 use Rattle.std.specs.List.{slice_get}
 use Rattle.spl_terms.specs.declared.atom.Atom.{Atom}
 use Rattle.spl_terms.specs.declared.atom.Atom.TheVariants.{Holds, Equal}
@@ -16,11 +16,13 @@ use Rattle.proof_steps.specs.Steps.{numbered, both_same, may_resolve, is_negativ
 use Rattle.proof_steps.specs.Checked.{stated}
 use Rattle.worker_cases.specs.declared.filing.Entry.{Entry}
 use Rattle.worker_cases.specs.declared.filing.Filing.{Filing}
+use Rattle.worker_cases.specs.declared.index.Activation.{Activation}
 use Rattle.worker_cases.specs.Partners.{is_in}
 use Rattle.worker_cases.specs.Covering.{Listing, IsNumber, IsCoveredPair, Grows}
 use Rattle.worker_cases.specs.Filing.{key, before_arrow, after_arrow, IsFiled, IsLinked}
 use Rattle.worker_cases.specs.Partners.{side, other_side, HasClause, FilesOnly, HasLiterals, HasPartners}
-use Rattle.worker_cases.proofs.CoverLemmas.{get_map, places_of, number_keeps}
+use Rattle.worker_cases.proofs.Lists.{get_snoc}
+use Rattle.worker_cases.proofs.CoverLemmas.{get_map, places_of}
 
 -- ---- atoms that are the same have one key
 
@@ -76,23 +78,23 @@ line_at lines (suc k) s e = go (slice_get lines k) refl (sym (get_map lines k) �
 
 -- ---- a given line that isn't among the partners has no conclusion
 
-module _ (at : Listing) (given : ℕ → Bool) (literals : Filing) (number : ℕ) (partners : List ℕ) (h : HasLiterals at.lines given literals) (has : (l : Line) → numbered at.lines number ≡ Some l → HasPartners literals.entries.items l.stated.clause partners) (x : ℕ) (given_x : given x ≡ true) (other : is_in partners x ≡ false) where
-  in_vain : (part part2 : Part) (j i : ℕ) (a b : Atom) (s t : Statement) → numbered (stated at.lines) x ≡ Some s → numbered (stated at.lines) number ≡ Some t → slice_get (part_of s.clause part) j ≡ Some b → slice_get (part_of t.clause part2) i ≡ Some a → other_side part2 ≡ side part → is_same a b ≡ true → ⊥
-  in_vain part part2 j i a b s t hs ht hb ha sides same =
-      let ls = line_at at.lines x s hs in
+module _ (at : Listing) (activations : List Activation) (literals : Filing) (number : ℕ) (places : List ℕ) (h : HasLiterals at.lines activations literals) (has : (l : Line) → numbered at.lines number ≡ Some l → HasPartners literals.entries.items l.stated.clause places) (k : ℕ) (a : Activation) (there : slice_get activations k ≡ Some a) (other : is_in places k ≡ false) where
+  in_vain : (part part2 : Part) (j i : ℕ) (c b : Atom) (s t : Statement) → numbered (stated at.lines) a.clause ≡ Some s → numbered (stated at.lines) number ≡ Some t → slice_get (part_of s.clause part) j ≡ Some b → slice_get (part_of t.clause part2) i ≡ Some c → other_side part2 ≡ side part → is_same c b ≡ true → ⊥
+  in_vain part part2 j i c b s t hs ht hb ha sides same =
+      let ls = line_at at.lines a.clause s hs in
       let lt = line_at at.lines number t ht in
-      let filed : IsFiled literals.entries.items (key (side part) b) x = h.atoms x ls.0 given_x ls.1 part j b (ap (λ (s : Statement). slice_get (part_of s.clause part) j) ls.2 ∙ hb) in
-      let keys : key (side part) b ≡ key (other_side part2) a = sym (same_key (side part) a b same) ∙ ap (λ s. key s a) (sym sides) in
-      let found : is_in partners x ≡ true = has lt.0 lt.1 part2 i a (ap (λ (s : Statement). slice_get (part_of s.clause part2) i) lt.2 ∙ ha) x (subst (λ k. IsFiled literals.entries.items k x) keys filed) in
-      (let c : true ≡ false = sym found ∙ other in cc)
+      let filed : IsFiled literals.entries.items (key (side part) b) k = h.atoms k a ls.0 there ls.1 part j b (ap (λ (s : Statement). slice_get (part_of s.clause part) j) ls.2 ∙ hb) in
+      let keys : key (side part) b ≡ key (other_side part2) c = sym (same_key (side part) c b same) ∙ ap (λ s. key s c) (sym sides) in
+      let found : is_in places k ≡ true = has lt.0 lt.1 part2 i c (ap (λ (s : Statement). slice_get (part_of s.clause part2) i) lt.2 ∙ ha) k (subst (λ q. IsFiled literals.entries.items q k) keys filed) in
+      (let z : true ≡ false = sym found ∙ other in cc)
 
-  pub vain_pairs : IsNumber at.lines x → IsNumber at.lines number → IsCoveredPair at x number × IsCoveredPair at number x
+  pub vain_pairs : IsNumber at.lines a.clause → IsNumber at.lines number → IsCoveredPair at a.clause number × IsCoveredPair at number a.clause
   vain_pairs hx hn = (
     record {
       left = hx;
       right = hn;
       covers = λ i part j s e.
-          let w = places_of i part j (numbered (stated at.lines) x) (numbered (stated at.lines) number) s e in
+          let w = places_of i part j (numbered (stated at.lines) a.clause) (numbered (stated at.lines) number) s e in
           let m = meet i part j w.p.clause w.q.clause (as_they_stand i part j w.p.clause w.q.clause w.may) in
           absurd (in_vain Succedent part i j m.b m.a w.p w.q w.left w.right m.left m.right (negative_side part m.negative).1 (same_turned m.a m.b m.same));
     },
@@ -100,40 +102,43 @@ module _ (at : Listing) (given : ℕ → Bool) (literals : Filing) (number : ℕ
       left = hn;
       right = hx;
       covers = λ i part j s e.
-          let w = places_of i part j (numbered (stated at.lines) number) (numbered (stated at.lines) x) s e in
+          let w = places_of i part j (numbered (stated at.lines) number) (numbered (stated at.lines) a.clause) s e in
           let m = meet i part j w.p.clause w.q.clause (as_they_stand i part j w.p.clause w.q.clause w.may) in
           absurd (in_vain part Succedent j i m.a m.b w.q w.p w.right w.left m.right m.left (sym (negative_side part m.negative).0) m.same);
     },
   )
 
--- ---- the literals of the given lines
+-- ---- the literals of the activated clauses
 
-pub literals_grow : (old new : Listing) (given now : ℕ → Bool) (literals : Filing) → Grows old new → ((n : ℕ) → now n ≡ given n) → ((n : ℕ) → given n ≡ true → IsNumber old.lines n) → HasLiterals old.lines given literals → HasLiterals new.lines now literals
-literals_grow old new given now literals g same numbers h = record {
+pub literals_grow : (old new : List Line) (activations : List Activation) (literals : Filing) → length old ≤ length new → ((k : ℕ) → k < length old → slice_get new k ≡ slice_get old k) → ((k : ℕ) (a : Activation) → slice_get activations k ≡ Some a → IsNumber old a.clause) → HasLiterals old activations literals → HasLiterals new activations literals
+literals_grow old new activations literals longer same numbers h = record {
   linked = h.linked;
-  atoms = λ n l e f. let was = sym (same n) ∙ e in h.atoms n l was (sym (number_keeps old new n g (numbers n was)) ∙ f);
-  only = λ k v f. same v ∙ h.only k v f;
+  atoms = λ k a l at f. h.atoms k a l at (sym (kept a.clause (numbers k a at)) ∙ f);
+  only = h.only;
+}
+  where
+    kept : (n : ℕ) → IsNumber old n → numbered new n ≡ numbered old n
+    kept zero w = absurd (omega (arith, w.0))
+    kept (suc j) w = same j (omega (arith, w.1))
+
+pub literals_more : (lines : List Line) (activations : List Activation) (a : Activation) (old new : Filing) → HasLiterals lines activations old → IsLinked new → FilesOnly old.entries.items new.entries.items (length activations) → ((l : Line) → numbered lines a.clause ≡ Some l → HasClause new.entries.items l.stated.clause (length activations)) → HasLiterals lines (activations ++ a ∷ []) new
+literals_more lines activations a old new h linked files own = record {
+  linked = linked;
+  atoms = λ k b l at f. elim (get_snoc activations a k b at) [
+    | inl before ↦ (λ part i c is. files.keeps (key (side part) c) k (h.atoms k b l before.1 f part i c is))
+    | inr here ↦ subst (HasClause new.entries.items l.stated.clause) (sym here.0) (own l (ap (λ (b : Activation). numbered lines b.clause) here.1 ∙ f))
+  ];
+  only = λ q v f. elim (files.only q v f) [
+    | inl before ↦ omega (arith, h.only q v before, length-append activations (a ∷ []))
+    | inr here ↦ omega (arith, here, length-append activations (a ∷ []))
+  ];
 }
 
-pub literals_more : (lines : List Line) (given then : ℕ → Bool) (number : ℕ) (old new : Filing) → ((n : ℕ) → then n ≡ true → (given n ≡ true) ⊎ (n ≡ number)) → ((n : ℕ) → given n ≡ true → then n ≡ true) → then number ≡ true
-    → HasLiterals lines given old → IsLinked new → FilesOnly old.entries.items new.entries.items number → ((l : Line) → numbered lines number ≡ Some l → HasClause new.entries.items l.stated.clause number) → HasLiterals lines then new
-literals_more lines given then number old new cases keeps own h linked files clause = record {
+pub no_literals : (lines : List Line) (literals : Filing) → literals.entries.items ≡ [] → IsLinked literals → HasLiterals lines [] literals
+no_literals lines literals empty linked = record {
   linked = linked;
-  atoms = λ n l e f. elim (cases n e) [
-    | inl before ↦ (λ part k a at. files.keeps (key (side part) a) n (h.atoms n l before f part k a at))
-    | inr here ↦ subst (HasClause new.entries.items l.stated.clause) (sym here) (clause l (ap (numbered lines) (sym here) ∙ f))
-  ];
-  only = λ k v f. elim (files.only k v f) [
-    | inl before ↦ keeps v (h.only k v before)
-    | inr here ↦ subst (λ v. then v ≡ true) (sym here) own
-  ];
-}
-
-pub no_literals : (lines : List Line) (given : ℕ → Bool) (literals : Filing) → ((n : ℕ) → given n ≡ false) → literals.entries.items ≡ [] → IsLinked literals → HasLiterals lines given literals
-no_literals lines given literals none empty linked = record {
-  linked = linked;
-  atoms = λ n l e f. absurd (let x : true ≡ false = sym e ∙ none n in cc);
-  only = λ k v f. absurd (nothing f.0 f.1 (subst (λ es. numbered es f.0 ≡ Some f.1) empty f.2));
+  atoms = λ k a l at f. absurd (cc);
+  only = λ q v f. absurd (nothing f.0 f.1 (subst (λ es. numbered es f.0 ≡ Some f.1) empty f.2));
 }
   where
     nothing : (n : ℕ) (e : Entry) → numbered [] n ≡ Some e → ⊥

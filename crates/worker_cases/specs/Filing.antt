@@ -1,5 +1,5 @@
 -- Numbers filed under keys, and lines filed under one of their atoms.
-use Rattle.std.specs.Prelude.{◌≡◌, ◌⊎◌, ℕ, ◌+◌, ◌*◌, ◌-◌, ◌<◌, ◌≤◌, ◌%◌, ◌^◌, true, false, List, [], ◌∷◌, ◌++◌, fold, length, map, Some, slice_get, unwrap_or, nat_eq}
+use Rattle.std.specs.Prelude.{◌≡◌, ℕ, ◌+◌, ◌*◌, ◌-◌, ◌<◌, ◌≤◌, ◌%◌, ◌^◌, true, false, List, [], ◌∷◌, ◌++◌, fold, length, map, Some, slice_get, unwrap_or, nat_eq}
 use Rattle.indexmap.specs.IndexMap.{get}
 use Rattle.spl_terms.specs.declared.term.Term.{Term, Term-F, fold-Term}
 use Rattle.spl_terms.specs.declared.term.Term.TheOpen as layer
@@ -70,49 +70,37 @@ pub record IsLinked (filing : Filing) : Type 0 where
 abbrev pub IsFiled : List Entry → ℕ → ℕ → Type 0
 IsFiled entries key value = (x : ℕ) × (e : Entry) × (numbered entries x ≡ Some e) × (e.key ≡ key) × (e.value ≡ value)
 
--- each listed line is filed under the key of its clause
-abbrev pub AreFiled : List Entry → Listing → Type 0
-AreFiled entries at = (n : ℕ) (l : Line) → at.lists n ≡ true → numbered at.lines n ≡ Some l → IsFiled entries (clause_key l.stated.clause) n
-
--- nothing but listed lines is filed
-abbrev pub AreListed : List Entry → Listing → Type 0
-AreListed entries at = (key v : ℕ) → IsFiled entries key v → at.lists v ≡ true
+-- each line is filed under the key of its clause
+abbrev pub AreFiled : List Entry → List Line → Type 0
+AreFiled entries lines = (n : ℕ) (l : Line) → numbered lines n ≡ Some l → IsFiled entries (clause_key l.stated.clause) n
 
 -- the value was filed under the key, last of all
 pub record IsAdded (old new : List Entry) (key value : ℕ) : Type 0 where
   pub older : ℕ
   pub last : new ≡ old ++ record { key = key; value = value; older = older } ∷ []
 
--- the entries are linked, and the listed lines are filed and no others
-pub record HasFiled (at : Listing) (filing : Filing) : Type 0 where
+-- the entries are linked, and as many of the first lines are filed as there are entries
+pub record HasFiledFirst (lines : List Line) (filing : Filing) : Type 0 where
   pub linked : IsLinked filing
-  pub filed : AreFiled filing.entries.items at
-  pub only : AreListed filing.entries.items at
+  pub filed : (n : ℕ) (l : Line) → n ≤ length filing.entries.items → numbered lines n ≡ Some l → IsFiled filing.entries.items (clause_key l.stated.clause) n
 
--- the entries are linked, and the listed lines up to this number are filed, and none that is not listed
-pub record HasFiledUpto (at : Listing) (last : ℕ) (filing : Filing) : Type 0 where
+-- and so each line is filed
+pub record HasFiled (lines : List Line) (filing : Filing) : Type 0 where
   pub linked : IsLinked filing
-  pub filed : (n : ℕ) (l : Line) → n ≤ last → at.lists n ≡ true → numbered at.lines n ≡ Some l → IsFiled filing.entries.items (clause_key l.stated.clause) n
-  pub only : AreListed filing.entries.items at
+  pub filed : AreFiled filing.entries.items lines
+  pub whole : length filing.entries.items ≡ length lines
 
--- one more line is listed, the last one, with this number
-pub record IsOneMore (old new : Listing) (number : ℕ) (line : Line) : Type 0 where
-  pub own : new.lists number ≡ true
-  pub found : numbered new.lines number ≡ Some line
-  pub grows : (n : ℕ) → old.lists n ≡ true → new.lists n ≡ true
-  pub cases : (n : ℕ) (l : Line) → new.lists n ≡ true → numbered new.lines n ≡ Some l → ((old.lists n ≡ true) × (numbered old.lines n ≡ Some l)) ⊎ ((n ≡ number) × (line ≡ l))
+-- of the listed lines that are filed under the key in the entries after x, none is a subclause of c
+abbrev pub HasNoSubclause : Listing → List Entry → ℕ → ℕ → Clause → Type 0
+HasNoSubclause at entries key x c = (y : ℕ) (e : Entry) (l : Line) → x < y → numbered entries y ≡ Some e → e.key ≡ key → at.lists e.value ≡ true → numbered at.lines e.value ≡ Some l → is_subclause l.stated.clause c ≡ false
 
--- of the lines that are filed under the key in the entries after x, none is a subclause of c
-abbrev pub HasNoSubclause : List Line → List Entry → ℕ → ℕ → Clause → Type 0
-HasNoSubclause lines entries key x c = (y : ℕ) (e : Entry) (l : Line) → x < y → numbered entries y ≡ Some e → e.key ≡ key → numbered lines e.value ≡ Some l → is_subclause l.stated.clause c ≡ false
+-- no listed line that is filed under the key of one of the atoms is a subclause of c
+abbrev pub HaveNoSubclause : Listing → List Entry → ℕ → List Atom → Clause → Type 0
+HaveNoSubclause at entries side atoms c = (k : ℕ) (a : Atom) → slice_get atoms k ≡ Some a → HasNoSubclause at entries (key side a) 0 c
 
--- no line that is filed under the key of one of the atoms is a subclause of c
-abbrev pub HaveNoSubclause : List Line → List Entry → ℕ → List Atom → Clause → Type 0
-HaveNoSubclause lines entries side atoms c = (k : ℕ) (a : Atom) → slice_get atoms k ≡ Some a → HasNoSubclause lines entries (key side a) 0 c
-
--- no line that is filed under the key of one of its atoms, or as the empty clause, is a subclause of c
-pub record AreNoSubclauses (lines : List Line) (entries : List Entry) (c : Clause) : Type 0 where
-  pub empty : HasNoSubclause lines entries 0 0 c
-  pub succedent : HaveNoSubclause lines entries after_arrow c.succedent c
-  pub antecedent : HaveNoSubclause lines entries before_arrow c.antecedent c
-  pub constraint : HaveNoSubclause lines entries before_arrow c.constraint c
+-- no listed line that is filed under the key of one of its atoms, or as the empty clause, is a subclause of c
+pub record AreNoSubclauses (at : Listing) (entries : List Entry) (c : Clause) : Type 0 where
+  pub empty : HasNoSubclause at entries 0 0 c
+  pub succedent : HaveNoSubclause at entries after_arrow c.succedent c
+  pub antecedent : HaveNoSubclause at entries before_arrow c.antecedent c
+  pub constraint : HaveNoSubclause at entries before_arrow c.constraint c

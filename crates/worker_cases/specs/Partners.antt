@@ -1,5 +1,5 @@
 -- Given lines filed under each of their atoms, and the lines that may resolve with one.
-use Rattle.std.specs.Prelude.{◌≡◌, ◌⊎◌, ℕ, ◌==◌, Bool, true, List, Some, slice_get}
+use Rattle.std.specs.Prelude.{◌≡◌, ◌⊎◌, ℕ, ◌==◌, ◌<◌, Bool, true, List, length, Some, slice_get}
 use Rattle.std.specs.List.{list_any}
 use Rattle.spl_terms.specs.declared.atom.Atom.{Atom}
 use Rattle.spl_terms.specs.declared.clause.Part.{Part}
@@ -9,6 +9,7 @@ use Rattle.spl_terms.specs.Clauses.{part_of}
 use Rattle.proof_steps.specs.declared.step.Line.{Line}
 use Rattle.proof_steps.specs.Steps.{numbered}
 use Rattle.worker_cases.specs.declared.filing.Entry.{Entry}
+use Rattle.worker_cases.specs.declared.index.Activation.{Activation}
 use Rattle.worker_cases.specs.declared.filing.Filing.{Filing}
 use Rattle.worker_cases.specs.Filing.{key, before_arrow, after_arrow, IsFiled, IsLinked}
 
@@ -39,11 +40,11 @@ pub record FilesOnly (old new : List Entry) (value : ℕ) : Type 0 where
   pub keeps : (key v : ℕ) → IsFiled old key v → IsFiled new key v
   pub only : (key v : ℕ) → IsFiled new key v → IsFiled old key v ⊎ (v ≡ value)
 
--- each given line is filed under the key of each of its atoms, and nothing else is filed
-pub record HasLiterals (lines : List Line) (given : ℕ → Bool) (literals : Filing) : Type 0 where
+-- the clause of each activation is filed under the key of each of its atoms, as the activation's place, and nothing else is filed
+pub record HasLiterals (lines : List Line) (activations : List Activation) (literals : Filing) : Type 0 where
   pub linked : IsLinked literals
-  pub atoms : (n : ℕ) (l : Line) → given n ≡ true → numbered lines n ≡ Some l → HasClause literals.entries.items l.stated.clause n
-  pub only : (key v : ℕ) → IsFiled literals.entries.items key v → given v ≡ true
+  pub atoms : (k : ℕ) (a : Activation) (l : Line) → slice_get activations k ≡ Some a → numbered lines a.clause ≡ Some l → HasClause literals.entries.items l.stated.clause k
+  pub only : (key v : ℕ) → IsFiled literals.entries.items key v → v < length activations
 
 -- all that is filed under the key is among the values
 abbrev pub HasValues : List Entry → ℕ → List ℕ → Type 0

@@ -1,9 +1,9 @@
-ghost use Rattle.std.specs.Prelude.{◌≡◌, [], fold, map, Some, unwrap_or, nat_eq, OnOk, OnErr, MatchBool, true, false};
+ghost use Rattle.std.specs.Prelude.{◌≡◌, ◌<◌, [], fold, map, Some, unwrap_or, nat_eq, OnOk, OnErr, MatchBool, true, false};
 ghost use Rattle.indexmap.specs.IndexMap.{get};
 ghost use Rattle.proof_steps.specs.declared.step.Line.{Line};
 ghost use Rattle.spl_truth.specs.Redundancy.{is_subclause};
 ghost use Rattle.proof_steps.specs.Steps.{numbered};
-ghost use Rattle.split_tree.specs.Journal.{ledger};
+ghost use Rattle.split_tree.specs.Journal.{ledger, nodes};
 ghost use Rattle.split_tree.specs.Facts.{listed};
 ghost use Rattle.worker_cases.specs.Covering.{IsSubsumed, IsNew};
 ghost use Rattle.worker_cases.specs.Filing.{mixed, term_hash, key, clause_key, IsLinked, IsAdded, HasFiled, HasNoSubclause, HaveNoSubclause, AreNoSubclauses};
@@ -141,21 +141,22 @@ impl Filing {
 
 // ---- lines that subsume a clause
 
-/// Whether the line with this number, from 1, is a subclause of the clause.
+/// Whether the line with this number, from 1, is listed at the node and is a subclause of the clause.
 fn is_line_in(table: &Table, node: u32, number: u32, clause: &Clause) -> bool
-    requires { listed table.now.setting table.now.past node number ≡ true }
-    ensures { MatchBool result (IsSubsumed (listing table.now.setting table.now.past node) clause.now) ((l : Line) → numbered (ledger table.now.setting table.now.past) number ≡ Some l → is_subclause l.stated.clause clause.now ≡ false) }
+    requires { node < nodes table.now.past }
+    ensures { MatchBool result (IsSubsumed (listing table.now.setting table.now.past node) clause.now) ((l : Line) → listed table.now.setting table.now.past node number ≡ true → numbered (ledger table.now.setting table.now.past) number ≡ Some l → is_subclause l.stated.clause clause.now ≡ false) }
 {
     match line_at(table, number) {
-        Some(line) => is_subclause(&line.stated.clause, clause),
+        Some(line) => table.listed(node, number) && is_subclause(&line.stated.clause, clause),
         None => false,
     }
 }
 
 /// Whether a line that is filed under the key is a subclause of the clause.
 fn is_subsumed_at(table: &Table, node: u32, filing: &Filing, key: u64, clause: &Clause) -> bool
-    requires filed { HasFiled (listing table.now.setting table.now.past node) filing.now }
-    ensures { MatchBool result (IsSubsumed (listing table.now.setting table.now.past node) clause.now) (HasNoSubclause (ledger table.now.setting table.now.past) filing.now.entries.items key 0 clause.now) }
+    requires there { node < nodes table.now.past }
+    requires filed { HasFiled (ledger table.now.setting table.now.past) filing.now }
+    ensures { MatchBool result (IsSubsumed (listing table.now.setting table.now.past node) clause.now) (HasNoSubclause (listing table.now.setting table.now.past node) filing.now.entries.items key 0 clause.now) }
 {
     let mut number = filing.newest(key);
     while let Some(entry) = numbered(filing.entries.as_slice(), number) {
@@ -176,8 +177,9 @@ fn is_subsumed_by(
     atoms: &[Atom],
     clause: &Clause,
 ) -> bool
-    requires filed { HasFiled (listing table.now.setting table.now.past node) filing.now }
-    ensures { MatchBool result (IsSubsumed (listing table.now.setting table.now.past node) clause.now) (HaveNoSubclause (ledger table.now.setting table.now.past) filing.now.entries.items side atoms.now clause.now) }
+    requires there { node < nodes table.now.past }
+    requires filed { HasFiled (ledger table.now.setting table.now.past) filing.now }
+    ensures { MatchBool result (IsSubsumed (listing table.now.setting table.now.past node) clause.now) (HaveNoSubclause (listing table.now.setting table.now.past node) filing.now.entries.items side atoms.now clause.now) }
 {
     for atom in atoms {
         if is_subsumed_at(table, node, filing, key(side, atom), clause) {
@@ -190,8 +192,9 @@ fn is_subsumed_by(
 /// Whether a line that is filed under the key of one of the clause's atoms, or as the empty clause, is a subclause of
 /// the clause.
 fn has_subclause(table: &Table, node: u32, filing: &Filing, clause: &Clause) -> bool
-    requires filed { HasFiled (listing table.now.setting table.now.past node) filing.now }
-    ensures { MatchBool result (IsSubsumed (listing table.now.setting table.now.past node) clause.now) (AreNoSubclauses (ledger table.now.setting table.now.past) filing.now.entries.items clause.now) }
+    requires there { node < nodes table.now.past }
+    requires filed { HasFiled (ledger table.now.setting table.now.past) filing.now }
+    ensures { MatchBool result (IsSubsumed (listing table.now.setting table.now.past node) clause.now) (AreNoSubclauses (listing table.now.setting table.now.past node) filing.now.entries.items clause.now) }
 {
     if is_subsumed_at(table, node, filing, 0, clause) {
         return true;
@@ -228,7 +231,8 @@ fn has_subclause(table: &Table, node: u32, filing: &Filing, clause: &Clause) -> 
 
 /// Whether a line that is listed at the node is a subclause of the clause; where none is, none states it.
 pub fn is_subsumed(table: &Table, node: u32, filing: &Filing, clause: &Clause) -> bool
-    requires filed { HasFiled (listing table.now.setting table.now.past node) filing.now }
+    requires there { node < nodes table.now.past }
+    requires filed { HasFiled (ledger table.now.setting table.now.past) filing.now }
     ensures { MatchBool result (IsSubsumed (listing table.now.setting table.now.past node) clause.now) (IsNew (listing table.now.setting table.now.past node) clause.now) }
 {
     has_subclause(table, node, filing, clause)

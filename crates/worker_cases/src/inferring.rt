@@ -1,11 +1,12 @@
 ghost use Rattle.std.specs.Prelude.{◌≡◌, ◌==◌, if◌then◌else◌, ℕ, OnOk, IfErr, IsErr};
 ghost use Rattle.spl_terms.specs.declared.clause.Part.{Part};
 ghost use Rattle.worker_cases.specs.Covering.{IsCoveredAt, IsCoveredPair};
-ghost use Rattle.worker_cases.specs.Filing.{HasFiled};
-ghost use Rattle.worker_cases.specs.Working.{listing, IsBusy, IsMate, IsLarge, IsStep, IsHalted};
+ghost use Rattle.split_tree.specs.Journal.{rounds};
+ghost use Rattle.worker_cases.specs.declared.halt.Halt.TheVariants.{Closed};
+ghost use Rattle.worker_cases.specs.Working.{listing, IsBusy, IsMate, IsLarge, IsWhole, pending, IsStep, IsHalted, IsLeft};
 
-use crate::filing::Filing;
 use crate::halt::Halt;
+use crate::index::Index;
 use crate::ledger::{count_of, resolve_at};
 use crate::publishing::publish_conclusion;
 use spl_terms::{Part, PushError};
@@ -24,6 +25,8 @@ fn end_large(
     requires large { IsLarge table.old.setting table.old.past node clause partner symbols }
     ensures halt { IfErr result (IsHalted table.old table.new) }
     ensures never { IsErr result }
+    ensures open { IfErr result (λ halt. (halt ≡ Closed) → ⊥) }
+    ensures rounds { rounds table.new.past ≡ rounds table.old.past }
 {
     table.reserve(1, 0)?;
     table.apply(
@@ -49,7 +52,7 @@ fn resolve_places(
     alloc: Global,
     table: &mut Table,
     node: u32,
-    clauses: &mut Filing,
+    index: &mut Index,
     clause: u32,
     i: u32,
     part: Part,
@@ -58,17 +61,19 @@ fn resolve_places(
     n: u32,
 ) -> Result<(), Halt>
     requires busy { IsBusy table.old.setting table.old.past node clause }
-    requires filed { HasFiled (listing table.old.setting table.old.past node) clauses.old }
+    requires index { IsWhole table.old.setting table.old.past index.old (pending node clause) }
     requires mate { IsMate table.old.setting table.old.past node clause m n }
     ensures step { OnOk result (IsStep table.old table.new node clause) }
-    ensures filed { OnOk result (HasFiled (listing table.new.setting table.new.past node) clauses.new) }
+    ensures index { OnOk result (IsWhole table.new.setting table.new.past index.new (pending node clause)) }
     ensures covered { OnOk result (IsCoveredAt (listing table.new.setting table.new.past node) i part j m n) }
     ensures halt { IfErr result (IsHalted table.old table.new) }
+    ensures left { IfErr result (IsLeft table.new index.new) }
+    ensures rounds { rounds table.new.past ≡ rounds table.old.past }
 {
     match resolve_at(alloc, table, i, part, j, m, n) {
         Ok(Some(conclusion)) => {
             publish_conclusion(
-                alloc, table, node, clauses, clause, i, part, j, m, n, conclusion,
+                alloc, table, node, index, clause, i, part, j, m, n, conclusion,
             )?;
             Ok(())
         }
@@ -87,7 +92,7 @@ fn resolve_part(
     alloc: Global,
     table: &mut Table,
     node: u32,
-    clauses: &mut Filing,
+    index: &mut Index,
     clause: u32,
     i: u32,
     part: Part,
@@ -95,16 +100,18 @@ fn resolve_part(
     n: u32,
 ) -> Result<(), Halt>
     requires busy { IsBusy table.old.setting table.old.past node clause }
-    requires filed { HasFiled (listing table.old.setting table.old.past node) clauses.old }
+    requires index { IsWhole table.old.setting table.old.past index.old (pending node clause) }
     requires mate { IsMate table.old.setting table.old.past node clause m n }
     ensures step { OnOk result (IsStep table.old table.new node clause) }
-    ensures filed { OnOk result (HasFiled (listing table.new.setting table.new.past node) clauses.new) }
+    ensures index { OnOk result (IsWhole table.new.setting table.new.past index.new (pending node clause)) }
     ensures covered { OnOk result ((j : ℕ) → IsCoveredAt (listing table.new.setting table.new.past node) i part j m n) }
     ensures halt { IfErr result (IsHalted table.old table.new) }
+    ensures left { IfErr result (IsLeft table.new index.new) }
+    ensures rounds { rounds table.new.past ≡ rounds table.old.past }
 {
     let count = count_of(table, part, n);
     for j in 0..count {
-        resolve_places(alloc, table, node, clauses, clause, i, part, j, m, n)?;
+        resolve_places(alloc, table, node, index, clause, i, part, j, m, n)?;
     }
     Ok(())
 }
@@ -114,25 +121,27 @@ fn resolve_place(
     alloc: Global,
     table: &mut Table,
     node: u32,
-    clauses: &mut Filing,
+    index: &mut Index,
     clause: u32,
     i: u32,
     m: u32,
     n: u32,
 ) -> Result<(), Halt>
     requires busy { IsBusy table.old.setting table.old.past node clause }
-    requires filed { HasFiled (listing table.old.setting table.old.past node) clauses.old }
+    requires index { IsWhole table.old.setting table.old.past index.old (pending node clause) }
     requires mate { IsMate table.old.setting table.old.past node clause m n }
     ensures step { OnOk result (IsStep table.old table.new node clause) }
-    ensures filed { OnOk result (HasFiled (listing table.new.setting table.new.past node) clauses.new) }
+    ensures index { OnOk result (IsWhole table.new.setting table.new.past index.new (pending node clause)) }
     ensures covered { OnOk result ((part : Part) (j : ℕ) → IsCoveredAt (listing table.new.setting table.new.past node) i part j m n) }
     ensures halt { IfErr result (IsHalted table.old table.new) }
+    ensures left { IfErr result (IsLeft table.new index.new) }
+    ensures rounds { rounds table.new.past ≡ rounds table.old.past }
 {
     resolve_part(
         alloc,
         table,
         node,
-        clauses,
+        index,
         clause,
         i,
         Part::Constraint,
@@ -143,7 +152,7 @@ fn resolve_place(
         alloc,
         table,
         node,
-        clauses,
+        index,
         clause,
         i,
         Part::Antecedent,
@@ -158,22 +167,24 @@ fn resolve_pair(
     alloc: Global,
     table: &mut Table,
     node: u32,
-    clauses: &mut Filing,
+    index: &mut Index,
     clause: u32,
     m: u32,
     n: u32,
 ) -> Result<(), Halt>
     requires busy { IsBusy table.old.setting table.old.past node clause }
-    requires filed { HasFiled (listing table.old.setting table.old.past node) clauses.old }
+    requires index { IsWhole table.old.setting table.old.past index.old (pending node clause) }
     requires mate { IsMate table.old.setting table.old.past node clause m n }
     ensures step { OnOk result (IsStep table.old table.new node clause) }
-    ensures filed { OnOk result (HasFiled (listing table.new.setting table.new.past node) clauses.new) }
+    ensures index { OnOk result (IsWhole table.new.setting table.new.past index.new (pending node clause)) }
     ensures covered { OnOk result (IsCoveredPair (listing table.new.setting table.new.past node) m n) }
     ensures halt { IfErr result (IsHalted table.old table.new) }
+    ensures left { IfErr result (IsLeft table.new index.new) }
+    ensures rounds { rounds table.new.past ≡ rounds table.old.past }
 {
     let count = count_of(table, Part::Succedent, m);
     for i in 0..count {
-        resolve_place(alloc, table, node, clauses, clause, i, m, n)?;
+        resolve_place(alloc, table, node, index, clause, i, m, n)?;
     }
     Ok(())
 }
@@ -183,21 +194,23 @@ pub fn resolve_both(
     alloc: Global,
     table: &mut Table,
     node: u32,
-    clauses: &mut Filing,
+    index: &mut Index,
     clause: u32,
     m: u32,
     n: u32,
 ) -> Result<(), Halt>
     requires busy { IsBusy table.old.setting table.old.past node clause }
-    requires filed { HasFiled (listing table.old.setting table.old.past node) clauses.old }
+    requires index { IsWhole table.old.setting table.old.past index.old (pending node clause) }
     requires mate { IsMate table.old.setting table.old.past node clause m n }
     requires back { IsMate table.old.setting table.old.past node clause n m }
     ensures step { OnOk result (IsStep table.old table.new node clause) }
-    ensures filed { OnOk result (HasFiled (listing table.new.setting table.new.past node) clauses.new) }
+    ensures index { OnOk result (IsWhole table.new.setting table.new.past index.new (pending node clause)) }
     ensures covered { OnOk result (IsCoveredPair (listing table.new.setting table.new.past node) m n × IsCoveredPair (listing table.new.setting table.new.past node) n m) }
     ensures halt { IfErr result (IsHalted table.old table.new) }
+    ensures left { IfErr result (IsLeft table.new index.new) }
+    ensures rounds { rounds table.new.past ≡ rounds table.old.past }
 {
-    resolve_pair(alloc, table, node, clauses, clause, m, n)?;
-    resolve_pair(alloc, table, node, clauses, clause, n, m)?;
+    resolve_pair(alloc, table, node, index, clause, m, n)?;
+    resolve_pair(alloc, table, node, index, clause, n, m)?;
     Ok(())
 }

@@ -4,12 +4,11 @@
 
 mod filing;
 mod halt;
+mod index;
 mod inferring;
 mod ledger;
 mod partners;
 mod publishing;
-#[cfg(test)]
-mod tests;
 mod working;
 
-pub use working::alone;
+pub use working::work_off;
