@@ -1,0 +1,6 @@
+//! Splitting a chosen clause into two cases.
+#![tactic(auto)]
+
+mod splitting;
+
+pub use splitting::split;
