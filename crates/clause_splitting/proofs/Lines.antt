@@ -1,5 +1,5 @@
 -- The lines of a Split, one by one.
-use Rattle.std.proofs.Common.{◌≡◌, ℕ, zero, suc, ◌+◌, ◌≤◌, Bool, true, false, cond, List, [], ◌∷◌, ◌++◌, length, map, replicate, Option, Some, None, option_map, refl, sym, ap, ◌∙◌, subst, arith, append_assoc}
+use Rattle.std.proofs.Common.{◌≡◌, ℕ, zero, suc, ◌+◌, Bool, true, false, cond, List, [], ◌∷◌, ◌++◌, length, map, replicate, Option, Some, None, option_map, refl, sym, ap, ◌∙◌, subst, arith, append_assoc}
 use Rattle.std.specs.List.{slice_get}
 use Rattle.std.specs.Prelude.{count_by}
 use Rattle.std.proofs.lemmas.Bool.{false≢true}
@@ -65,12 +65,13 @@ pub negations_push : (lines more old : List Line) (clause k : ℕ) (l : Line) �
     → map (λ (x : Line). x.step) more ≡ map (λ (x : Line). x.step) old ++ negations clause 0 (k + 1)
 negations_push lines more old clause k l before is e =
     let one : suc k ≡ k + 1 = omega arith in
+    let from : k ≡ 0 + k = omega arith in
     let front = map (λ (x : Line). x.step) old in
     ap (map (λ (x : Line). x.step)) e
     ∙ (steps_push lines l
     ∙ (ap (λ xs. xs ++ l.step ∷ []) before
-    ∙ (ap (λ x. (front ++ negations clause 0 k) ++ x ∷ []) is
-    ∙ (append_assoc front (negations clause 0 k) (assume clause 2 (Some k) ∷ [])
+    ∙ (ap (λ x. (front ++ negations clause 0 k) ++ x ∷ []) (is ∙ ap (λ n. assume clause 2 (Some n)) from)
+    ∙ (append_assoc front (negations clause 0 k) (assume clause 2 (Some (0 + k)) ∷ [])
     ∙ (ap (λ xs. front ++ xs) (sym (negations_more clause 0 k)) ∙ ap (λ n. front ++ negations clause 0 n) one)))))
 
 -- ---- how many lines there are

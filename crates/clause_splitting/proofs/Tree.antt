@@ -1,28 +1,24 @@
 -- The tree stays settled where a clause is split: the left child is live, and each other live node keeps its live child.
-use Rattle.std.proofs.Common.{◌≡◌, ◌⊎◌, inl, inr, ℕ, zero, suc, ◌+◌, ◌<◌, ◌≤◌, ◌==◌, Bool, true, false, cond, not, ◌&&◌, ◌||◌, eqb, leb, List, [], ◌∷◌, ◌++◌, length, map, Option, Some, None, option_map, option_and_then, refl, sym, ap, ◌∙◌, subst, arith, eq-eqb}
+use Rattle.std.proofs.Common.{◌≡◌, inl, inr, ℕ, zero, suc, ◌<◌, Bool, true, false, not, ◌&&◌, eqb, List, [], ◌∷◌, length, map, Some, None, option_map, option_and_then, refl, sym, ap, ◌∙◌, subst, arith, eq-eqb}
 use Rattle.std.specs.List.{slice_get}
-use Rattle.std.proofs.lemmas.Bool.{cases_Bool, cases_lt, or_cases, and_from, eqb-true, ne_eqb, cond-true, false≢true}
+use Rattle.std.proofs.lemmas.Bool.{cases_Bool, cases_lt, or_cases, eqb-true, cond-true, false≢true}
 use Rattle.spl_terms.specs.declared.clause.Clause.{Clause}
 use Rattle.spl_terms.specs.Clauses.{is_empty}
 use Rattle.proof_steps.specs.declared.step.Statement.{Statement}
 use Rattle.proof_steps.specs.declared.step.Line.{Line}
-use Rattle.proof_steps.specs.Parts.{Parted, parts_of}
-use Rattle.proof_steps.specs.Steps.{numbered, conclude, assumed, states, side_of}
+use Rattle.proof_steps.specs.Steps.{conclude, assumed, states, side_of}
 use Rattle.proof_steps.specs.Checked.{stated}
-use Rattle.split_tree.specs.declared.branch.Branch.{Branch}
 use Rattle.split_tree.specs.declared.event.Entry.{Entry}
-use Rattle.split_tree.specs.declared.event.Event.{Event}
 use Rattle.split_tree.specs.declared.event.Event.TheVariants.{Split}
 use Rattle.split_tree.specs.Journal.{Setting, ledger, nodes, steps}
 use Rattle.split_tree.specs.Paths.{stem, on_path, branch, branch_to, is_leaf, subject}
-use Rattle.split_tree.specs.Facts.{lists, listed, IsEmptyAt, IsDead, IsLive}
-use Rattle.split_tree.specs.Legal.{assume, assume_steps, IsLegalJournal, IsSplittable, IsSettled, HasLiveChild}
+use Rattle.split_tree.specs.Facts.{lists, listed, IsDead, IsLive}
+use Rattle.split_tree.specs.Legal.{assume, IsLegalJournal, IsSplittable, IsSettled, HasLiveChild}
 use Rattle.split_tree.proofs.Branches.{branch_old}
 use Rattle.split_tree.proofs.Climb.{stem_old, stem_high}
 use Rattle.split_tree.proofs.Depends.{listed_after, numbered_old, numbered_new}
 use Rattle.split_tree.proofs.Homes.{listed_within}
 use Rattle.split_tree.proofs.Ledger.{numbered_more}
-use Rattle.split_tree.proofs.Places.{claimed_within}
 use Rattle.split_tree.proofs.Standing.{split_here}
 use Rattle.split_tree.proofs.States.{fresh_leaf}
 use Rattle.clause_splitting.proofs.Left.{left_full}
@@ -44,7 +40,7 @@ first_full s past w node lines put_off p l e =
     let step : assume p.clause 1 None ≡ l.step = cc in
     let ends = ap (option_map (λ (c : Clause). states c (side_of p.clause 1 ∷ []))) (ap (option_and_then (assumed 1 None)) p.parted) in
     let made : Some (states p.parts.left (side_of p.clause 1 ∷ [])) ≡ Some l.stated =
-        sym ends ∙ (sym (assume_concludes (ledger s past) p.clause 1 None p.split p.found) ∙ (ap (conclude s.input (stated (ledger s past))) step ∙ (p.concluded 0 l e).0)) in
+    sym ends ∙ (sym (assume_concludes (ledger s past) p.clause 1 None p.split p.found) ∙ (ap (conclude s.input (stated (ledger s past))) step ∙ (p.concluded 0 l e).0)) in
     let is : states p.parts.left (side_of p.clause 1 ∷ []) ≡ l.stated = cc in
     ap (λ (t : Statement). is_empty t.clause) (sym is) ∙ left_full p.split.stated.clause p.parts p.parted
 

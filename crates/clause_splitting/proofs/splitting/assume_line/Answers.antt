@@ -1,4 +1,3 @@
-use Rattle.std.proofs.Common.{sym, ◌∙◌}
 use Rattle.clause_splitting.proofs.Lines.{assume_line}
 use Rattle.clause_splitting.proofs.splitting.assume_line.Goals as goal
 
