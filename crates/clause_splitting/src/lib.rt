@@ -2,5 +2,7 @@
 #![tactic(auto)]
 
 mod splitting;
+#[cfg(test)]
+mod tests;
 
 pub use splitting::split;
