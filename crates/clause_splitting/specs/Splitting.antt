@@ -1,6 +1,8 @@
 -- Splitting the clause that is chosen at a node (Weidenbach 2001, the section on splitting).
-use Rattle.std.specs.Prelude.{◌≡◌, ℕ, Bool, List, ◌∷◌, Option, Some, slice_get}
+use Rattle.std.specs.Prelude.{◌≡◌, ℕ, Bool, List, ◌∷◌, Option, Some, IsSome, slice_get}
 use Rattle.proof_steps.specs.declared.step.Line.{Line}
+use Rattle.proof_steps.specs.Parts.{Parted, parts_of}
+use Rattle.proof_steps.specs.Steps.{numbered, within, assumption_of}
 use Rattle.proof_steps.specs.Checked.{IsConclusion, stated}
 use Rattle.split_tree.specs.declared.event.Entry.{Entry}
 use Rattle.split_tree.specs.declared.event.Event.TheVariants.{Split, Full}
@@ -19,6 +21,14 @@ pub record IsSplitBy (by node : ℕ) (old new : State) : Type 0 where
 pub record IsFullBy (by node : ℕ) (old new : State) : Type 0 where
   pub chain : List Line
   pub is : new.past ≡ record { by = by; event = Full node chain } ∷ old.past
+
+-- these are the parts of the clause
+abbrev pub ArePartsOf : Setting → List Entry → ℕ → Parted → Type 0
+ArePartsOf s past clause parts = (l : Line) → numbered (ledger s past) clause ≡ Some l → parts_of l.stated.clause ≡ Some parts
+
+-- what is assumed on this side is there, in at most 4,096 symbols
+abbrev pub CanAssume : Setting → List Entry → ℕ → ℕ → Option ℕ → Type 0
+CanAssume s past clause side negated = (l : Line) → numbered (ledger s past) clause ≡ Some l → IsSome (within (assumption_of clause side negated l.stated))
 
 -- each of these lines states what its step concludes from the ledger
 abbrev pub AreConcluded : Setting → List Entry → List Line → Type 0

@@ -1,5 +1,5 @@
 //! The steps of a Split, and the event.
-ghost use Rattle.std.specs.Prelude.{◌≡◌, ◌+◌, ◌<◌, ◌≤◌, ◌++◌, IfOk, OnOk, OnErr, MatchBool, length, map, replicate, true, false, Some, None};
+ghost use Rattle.std.specs.Prelude.{◌≡◌, ℕ, ◌+◌, ◌<◌, ◌≤◌, ◌++◌, IfOk, OnOk, OnErr, MatchBool, length, map, replicate, true, false, Some, None};
 ghost use Rattle.spl_terms.specs.Clauses.{atoms_of};
 ghost use Rattle.proof_steps.specs.declared.step.Line.{Line};
 ghost use Rattle.proof_steps.specs.Parts.{parts_of};
@@ -8,7 +8,7 @@ ghost use Rattle.split_tree.specs.Journal.{ledger, splits, steps};
 ghost use Rattle.split_tree.specs.Facts.{chosen, kept, Holds};
 ghost use Rattle.split_tree.specs.Ending.{first_end};
 ghost use Rattle.split_tree.specs.Legal.{assume_steps, negations, IsSettled};
-ghost use Rattle.clause_splitting.specs.Splitting.{IsSplitBy, IsFullBy, AreConcluded, IsAssumeLine};
+ghost use Rattle.clause_splitting.specs.Splitting.{IsSplitBy, IsFullBy, ArePartsOf, CanAssume, AreConcluded, IsAssumeLine};
 
 use proof_steps::{Line, Parts, Rule, Step, assume};
 use spl_terms::{Clause, Items};
@@ -26,13 +26,11 @@ fn assume_line(
 ) -> Result<Line, AllocError>
     requires some { 1 ≤ clause }
     requires there { clause ≤ steps table.now.setting table.now.past }
+    requires can { CanAssume table.now.setting table.now.past clause side negated }
     ensures { IfOk result (λ line. IsAssumeLine table.now.setting table.now.past clause side negated line) }
 {
     let whole = &table.line(clause).stated;
-    // The parts of a clause within 4,096 symbols are within them too, so nothing is `None` for its size.
-    let Some(stated) = assume(alloc, clause, side, negated, Some(whole))? else {
-        return Err(AllocError);
-    };
+    let stated = assume(alloc, clause, side, negated, Some(whole))?.unwrap();
     Ok(Line {
         step: Step {
             rule: Rule::Assume { side, negated },
@@ -74,6 +72,7 @@ fn add_negations(
 ) -> Result<(), AllocError>
     requires some { 1 ≤ clause }
     requires there { clause ≤ steps table.now.setting table.now.past }
+    requires can { (k : ℕ) → k < count → CanAssume table.now.setting table.now.past clause 2 (Some k) }
     requires concluded { AreConcluded table.now.setting table.now.past lines.old }
     ensures steps { OnOk result (map (λ l. l.step) lines.new ≡ map (λ l. l.step) lines.old ++ negations clause 0 count) }
     ensures concluded { OnOk result (AreConcluded table.now.setting table.now.past lines.new) }
@@ -94,9 +93,11 @@ fn assume_lines(
 ) -> Result<Items<Line>, AllocError>
     requires some { 1 ≤ clause }
     requires there { clause ≤ steps table.now.setting table.now.past }
+    requires parted { ArePartsOf table.now.setting table.now.past clause parts.now }
     ensures steps { IfOk result (λ lines. map (λ l. l.step) lines ≡ assume_steps clause parts.now) }
     ensures concluded { IfOk result (λ lines. AreConcluded table.now.setting table.now.past lines) }
 {
+    table.ledger_is_concluded();
     let mut lines = Items::with_room(alloc, 3)?;
     lines.push(assume_line(alloc, table, clause, 1, None)?)?;
     lines.push(assume_line(alloc, table, clause, 2, None)?)?;

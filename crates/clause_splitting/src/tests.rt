@@ -202,16 +202,42 @@ fn ends_full(table: &Table, steps: usize) -> bool {
     }
 }
 
-/// Whether the table has the clause 2 at the left child of the root, and the clauses from 3 to the last one at the
-/// right one.
-fn lists_at_sides(table: &Table, last: u32) -> bool {
-    if table.nodes() != 3 || table.steps() != last || last < 3 {
+/// Whether the table has that clause at that node, and lists it there.
+fn lists(table: &Table, node: u32, clause: u32) -> bool {
+    if table.nodes() <= node || clause < 1 || table.steps() < clause {
         return false;
     }
-    let left = table.listed(1, 2) && !table.listed(1, 3) && !table.listed(1, last);
-    let right = !table.listed(2, 2) && table.listed(2, 3) && table.listed(2, last);
-    let above = table.parent(1) == Some(0) && table.parent(2) == Some(0);
-    left && right && above && table.live(1) && table.live(2) && !table.leaf(0)
+    table.listed(node, clause)
+}
+
+/// Whether the node is a live leaf below the root.
+fn is_open_below_root(table: &Table, node: u32) -> bool {
+    if table.nodes() <= node {
+        return false;
+    }
+    table.parent(node) == Some(0) && table.leaf(node) && table.live(node)
+}
+
+/// Whether the table lists the clause 2 at the left child of the root, and the clauses 3 and last at the right one.
+fn lists_at_sides(table: &Table, last: u32) -> bool {
+    let left = lists(table, 1, 2) && !lists(table, 1, 3) && !lists(table, 1, last);
+    let right = !lists(table, 2, 2) && lists(table, 2, 3) && lists(table, 2, last);
+    let open_ended = is_open_below_root(table, 1) && is_open_below_root(table, 2);
+    table.nodes() == 3 && table.steps() == last && left && right && open_ended
+}
+
+/// Whether the line with this number assumes the clause on this side of the split of the first clause.
+fn assumes_at(
+    table: &Table,
+    number: u32,
+    side: u32,
+    negated: Option<u32>,
+    clause: &Clause,
+) -> bool {
+    if number < 1 || table.steps() < number {
+        return false;
+    }
+    assumes(table.line(number), side, negated, clause)
 }
 
 #[test]
@@ -223,17 +249,14 @@ fn a_ground_clause_is_split_with_a_negation(rt: HostRuntime) -> Result<(), Fail>
     assert!(rt; ends_with_split(&table, 3));
     assert!(rt; lists_at_sides(&table, 4));
     assert_eq!(rt; table.counted(), 3);
-    if table.steps() != 4 {
-        return Err(Fail::new("other steps"));
-    }
     let (left, right) = (
         fact(alloc, plain(alloc, 4)?)?,
         fact(alloc, plain(alloc, 7)?)?,
     );
-    assert!(rt; assumes(table.line(2), 1, None, &left));
-    assert!(rt; assumes(table.line(3), 2, None, &right));
+    assert!(rt; assumes_at(&table, 2, 1, None, &left));
+    assert!(rt; assumes_at(&table, 3, 2, None, &right));
     let no_left = denial(alloc, plain(alloc, 4)?)?;
-    assert!(rt; assumes(table.line(4), 2, Some(0), &no_left));
+    assert!(rt; assumes_at(&table, 4, 2, Some(0), &no_left));
     assert_eq!(rt; table.reason(), None);
     Ok(())
 }
@@ -246,13 +269,10 @@ fn a_part_with_variables_is_not_negated(rt: HostRuntime) -> Result<(), Fail> {
     assert_eq!(rt; done, Some(true));
     assert!(rt; ends_with_split(&table, 2));
     assert!(rt; lists_at_sides(&table, 3));
-    if table.steps() != 3 {
-        return Err(Fail::new("other steps"));
-    }
     let left = fact(alloc, of_variable(alloc, 4, 0)?)?;
     let right = fact(alloc, of_variable(alloc, 7, 0)?)?;
-    assert!(rt; assumes(table.line(2), 1, None, &left));
-    assert!(rt; assumes(table.line(3), 2, None, &right));
+    assert!(rt; assumes_at(&table, 2, 1, None, &left));
+    assert!(rt; assumes_at(&table, 3, 2, None, &right));
     Ok(())
 }
 

@@ -1,6 +1,9 @@
 use Rattle.clause_splitting.proofs.Lines.{negations_push, concluded_push}
-use Rattle.std.proofs.Common.{Some}
+use Rattle.std.proofs.Common.{Some, arith}
 use Rattle.clause_splitting.proofs.splitting.add_negations.Goals as goal
+
+pub assume_line-requires-clause-can : goal.assume_line-requires-clause-can
+assume_line-requires-clause-can c = c.requires.can c.loop-number.number (omega (arith, c.loop-number-test.true))
 
 pub loop-number-preserved : goal.loop-number-preserved
 loop-number-preserved c =

@@ -1,8 +1,19 @@
-use Rattle.std.proofs.Common.{None, subst, sym}
+use Rattle.std.proofs.Common.{None, subst, sym, arith}
 use Rattle.clause_splitting.specs.Splitting.{AreConcluded}
+use Rattle.clause_splitting.proofs.Sizes.{can_left, can_right, can_negate}
 use Rattle.clause_splitting.proofs.Lines.{concluded_push, none_concluded}
 use Rattle.clause_splitting.proofs.splitting.assume_lines.Goals as goal
 use Rattle.clause_splitting.proofs.splitting.assume_lines.Goals.{then-parts+in_ok-count+in_ok-add_negations, else-parts}
+
+pub assume_line-requires-clause-can : goal.assume_line-requires-clause-can
+assume_line-requires-clause-can c = can_left c.args.table.now.setting c.args.table.now.past c.args.clause c.args.parts.now c.ledger_is_concluded.ensures c.requires.parted
+
+pub assume_line-requires-2-clause-can : goal.assume_line-requires-2-clause-can
+assume_line-requires-2-clause-can c = can_right c.args.table.now.setting c.args.table.now.past c.args.clause c.args.parts.now c.ledger_is_concluded.ensures c.requires.parted
+
+pub add_negations-requires-clause-can : goal.add_negations-requires-clause-can
+add_negations-requires-clause-can c = λ k h.
+    can_negate c.args.table.now.setting c.args.table.now.past c.args.clause c.args.parts.now c.ledger_is_concluded.ensures c.requires.parted c.if-parts.true k (omega (arith, h, c.in_ok-count.ensures, c.atom_count.ensures))
 
 pub returns-clause-concluded : goal.returns-clause-concluded
 returns-clause-concluded c =
