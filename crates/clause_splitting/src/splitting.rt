@@ -16,7 +16,7 @@ use split_tree::{Event, Table};
 use std::alloc::{AllocError, Global};
 
 /// The line that assumes a side of the split of the clause or, with a number, the negation of that atom of the left
-/// part on the right side.
+/// part on the right side. What is assumed has no more symbols than the clause, so it is always stated.
 fn assume_line(
     alloc: Global,
     table: &Table,

