@@ -50,7 +50,7 @@ all_published s by [] past each = record { work = work_self s past; leaf = λ n.
 all_published s by (e ∷ added) past each =
     let c = each 0 e refl in
     more_published s past (added ++ past) (e ∷ added ++ past) (all_published s by added past (λ k f at. each (suc k) f at))
-      (subst (λ f. OnlyPublishes s (added ++ past) (f ∷ added ++ past)) (sym c.is) (one_published s (added ++ past) by c.node c.line))
+    (subst (λ f. OnlyPublishes s (added ++ past) (f ∷ added ++ past)) (sym c.is) (one_published s (added ++ past) by c.node c.line))
 
 -- an empty clause was published, and then steps that close cases
 pub closed_by : (s : Setting) (past later : List Entry) (node : ℕ) (l : Line) → OnlyCloses 1 (published 1 node l ∷ past) later → OnlyPublishes s past later

@@ -225,7 +225,7 @@ publish_listed old new m clause node l h at e f =
     let on : on_path past m node ≡ true = subst (λ x. on_path past m x ≡ true) (sym at) (owner_on s past w.rests.sound.legal l.stated.deps m w.there) in
     let long : steps s past + 1 ≡ steps s (published 1 node l ∷ past) = omega (arith, length-append (ledger s past) (l ∷ [])) in
     moved (λ x p. listed x p m (steps x p) ≡ true) s new.setting (published 1 node l ∷ past) new.past e f
-      (subst (λ n. listed s (published 1 node l ∷ past) m n ≡ true) long (publishes_here s past 1 node l m on))
+    (subst (λ n. listed s (published 1 node l ∷ past) m n ≡ true) long (publishes_here s past 1 node l m on))
 
 -- ---- whether a clause is empty
 

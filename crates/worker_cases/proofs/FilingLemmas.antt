@@ -139,17 +139,19 @@ first_none lines filing empty l = record { linked = l; filed = λ n m low is. ab
 
 pub first_more : (lines : List Line) (number : ℕ) (line : Line) (a b : Filing) (key : ℕ) → 1 ≤ number → numbered lines number ≡ Some line → key ≡ clause_key line.stated.clause → HasFiledFirst lines a → length a.entries.items ≡ number - 1 → IsLinked b → IsAdded a.entries.items b.entries.items key number → HasFiledFirst lines b × (length b.entries.items ≡ number)
 first_more lines number line a b key some is k h long l added =
-    let whole : length b.entries.items ≡ number = omega (arith, added_length a.entries.items b.entries.items key number added, long, some) in
-    (record {
-      linked = l;
-      filed = λ n m low found. subst (λ es. IsFiled es (clause_key m.stated.clause) n) (sym added.last) (elim (cases_lt n number) [
-        | inl less ↦ filed_left a.entries.items _ (clause_key m.stated.clause) n (h.filed n m (omega (arith, less, long)) found)
-        | inr more ↦
-            let same : number ≡ n = omega (arith, low, more, whole) in
-            let line_is : line ≡ m = (let x : Some line ≡ Some m = sym is ∙ ap (numbered lines) same ∙ found in cc) in
-            (length a.entries.items + 1, _, numbered_last a.entries.items _, k ∙ ap (λ (x : Line). clause_key x.stated.clause) line_is, same)
-      ]);
-    }, whole)
+    let whole : length b.entries.items ≡ number = omega (arith, added_length a.entries.items b.entries.items key number added, long, some) in (
+      record {
+        linked = l;
+        filed = λ n m low found. subst (λ es. IsFiled es (clause_key m.stated.clause) n) (sym added.last) (elim (cases_lt n number) [
+          | inl less ↦ filed_left a.entries.items _ (clause_key m.stated.clause) n (h.filed n m (omega (arith, less, long)) found)
+          | inr more ↦
+              let same : number ≡ n = omega (arith, low, more, whole) in
+              let line_is : line ≡ m = (let x : Some line ≡ Some m = sym is ∙ ap (numbered lines) same ∙ found in cc) in
+              (length a.entries.items + 1, _, numbered_last a.entries.items _, k ∙ ap (λ (x : Line). clause_key x.stated.clause) line_is, same)
+        ]);
+      },
+      whole,
+    )
 
 pub first_all : (lines : List Line) (filing : Filing) → length lines ≤ length filing.entries.items → length filing.entries.items ≤ length lines → HasFiledFirst lines filing → HasFiled lines filing
 first_all lines filing long few h = record { linked = h.linked; filed = λ n l is. h.filed n l (omega (arith, long, numbered_within lines n l is)) is; whole = omega (arith, long, few) }

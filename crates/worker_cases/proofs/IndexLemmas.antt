@@ -75,7 +75,7 @@ numbered_keeps old new zero same h = refl
 numbered_keeps old new (suc k) same h = same k (omega (arith, h))
 
 -- the first lines stay filed
-first_keeps : (old new : List Line) (clauses : Filing) → ((k : ℕ) → k < length old → slice_get new k ≡ slice_get old k) → length clauses.entries.items ≤ length old → HasFiledFirst old clauses → HasFiledFirst new clauses
+pub first_keeps : (old new : List Line) (clauses : Filing) → ((k : ℕ) → k < length old → slice_get new k ≡ slice_get old k) → length clauses.entries.items ≤ length old → HasFiledFirst old clauses → HasFiledFirst new clauses
 first_keeps old new clauses same few h = record { linked = h.linked; filed = λ n l low is. h.filed n l low (sym (numbered_keeps old new n same (omega (arith, low, few))) ∙ is) }
 
 pub index_keeps : (s : Setting) (old new : List Entry) (index : Index) → KeepsWork s old new → IsIndex s old index → IsIndex s new index
@@ -87,7 +87,7 @@ index_keeps s old new index k h = record {
 }
 
 -- all lines that were filed are the first ones
-filed_first : (lines : List Line) (clauses : Filing) → HasFiled lines clauses → HasFiledFirst lines clauses
+pub filed_first : (lines : List Line) (clauses : Filing) → HasFiled lines clauses → HasFiledFirst lines clauses
 filed_first lines clauses h = record { linked = h.linked; filed = λ n l low is. h.filed n l is }
 
 pub whole_index : (s : Setting) (past : List Entry) (index : Index) → IsWhole s past index nothing_else → IsIndex s past index

@@ -10,5 +10,6 @@ pub mod LegalLemmas
 pub mod IndexLemmas
 pub mod EventLemmas
 pub mod ClosingLemmas
+pub mod SplitLemmas
 pub mod WorkLemmas
 pub mod RootLemmas

@@ -30,10 +30,10 @@ worked_listed s (e ∷ past) legal m n there h =
     let up = stem e.event (nodes past) m in
     let low : up < nodes past = stem_there s past legal.1 e.by e.event m legal.0.asked there in
     or_right (lists e.event (nodes past) (steps s past) (on_path past m) m n) (listed s past up n)
-      (elim (or_cases (activates e.event (chosen past) (on_path past up) n) (worked past up n) h) [
-        | inl now ↦ activated_listed s past legal.1 e.event up n low now
-        | inr before ↦ worked_listed s past legal.1 up n low before
-      ])
+    (elim (or_cases (activates e.event (chosen past) (on_path past up) n) (worked past up n) h) [
+      | inl now ↦ activated_listed s past legal.1 e.event up n low now
+      | inr before ↦ worked_listed s past legal.1 up n low before
+    ])
 
 -- an event that makes no node leaves the paths as they were
 pub same_paths : (past : List Entry) (m n : ℕ) → (eqb n m || on_path past m n) ≡ on_path past m n

@@ -1,7 +1,7 @@
 -- Working off the chosen clause, and what is filed after each event.
 use Rattle.std.proofs.Common.{◌≡◌, ◌⊎◌, inl, inr, ℕ, zero, suc, ◌+◌, ◌<◌, ◌≤◌, ◌==◌, Bool, true, false, ◌&&◌, ◌||◌, List, [], ◌∷◌, ◌++◌, length, Option, Some, None, refl, sym, ap, ◌∙◌, subst, arith}
 use Rattle.std.specs.List.{slice_get}
-use Rattle.std.proofs.lemmas.Bool.{or_cases, or_right, and_parts, eqb-true, cases_Bool, cases_lt}
+use Rattle.std.proofs.lemmas.Bool.{or_cases, or_right, and_parts, eqb-true, cases_Bool, cases_lt, false≢true}
 use Rattle.std.proofs.lemmas.Option.{slice_get_within}
 use Rattle.spl_terms.specs.declared.clause.Part.{Part}
 use Rattle.spl_terms.specs.declared.clause.Clause.{Clause}
@@ -11,7 +11,8 @@ use Rattle.proof_steps.specs.Steps.{numbered}
 use Rattle.proof_steps.specs.Checked.{resolution_of_lines}
 use Rattle.proof_steps.specs.Covering.{IsSubsumedByOne, IsCoveredBy, AreCoveredBy}
 use Rattle.split_tree.specs.declared.event.Entry.{Entry}
-use Rattle.split_tree.specs.declared.event.Event.TheVariants.{Choose, Activate}
+use Rattle.split_tree.specs.declared.event.Event.{Event}
+use Rattle.split_tree.specs.declared.event.Event.TheVariants.{Claim, Choose, Activate}
 use Rattle.split_tree.specs.State.{State}
 use Rattle.split_tree.specs.Journal.{Setting, ledger, nodes, rounds}
 use Rattle.split_tree.specs.Paths.{on_path}
@@ -25,13 +26,14 @@ use Rattle.worker_cases.specs.Filing.{HasFiled}
 use Rattle.worker_cases.specs.Partners.{is_in, HasLiterals, HasPartners}
 use Rattle.worker_cases.specs.declared.index.Activation.{Activation}
 use Rattle.worker_cases.specs.declared.index.Index.{Index}
-use Rattle.worker_cases.specs.Working.{listing, IsBusy, ArePartners, AreAllPartners, AreGathered, IsActivation, HasActivations, IsMate, IsStep, IsWhole, nothing_else, pending}
+use Rattle.worker_cases.specs.Working.{listing, IsBusy, ArePartners, AreAllPartners, AreGathered, IsActivation, HasActivations, IsMate, KeepsWork, IsStep, IsIndex, IsWhole, nothing_else, pending}
 use Rattle.worker_cases.proofs.Lists.{member_place}
 use Rattle.worker_cases.proofs.PathLemmas.{worked_listed, same_paths}
 use Rattle.worker_cases.proofs.CoverLemmas.{pair_grows, number_keeps}
 use Rattle.worker_cases.proofs.VainLemmas.{vain_pairs}
+use Rattle.worker_cases.proofs.IndexLemmas.{activations_keep, index_keeps}
 use Rattle.worker_cases.proofs.TreeLemmas.{SameListing, quiet_listing, quiet_tree}
-use Rattle.worker_cases.proofs.EventLemmas.{step_self, step_more, after_activation, number_is, worked_own}
+use Rattle.worker_cases.proofs.EventLemmas.{step_self, step_more, after_claim, after_choice, after_activation, number_is, worked_own}
 
 -- ---- mates
 
@@ -78,7 +80,7 @@ all_partners s past m clause activations literals places numbers busy h l all gi
           ] in
           let own = number_of s past m clause clause busy busy.lists in
           subst (λ n. IsCoveredPair (listing s past m) n clause × IsCoveredPair (listing s past m) clause n) a.is
-            (vain_pairs (listing s past m) acts literals clause places l all a.place a.at a.found other (h.numbers a.place a.at a.found).0 own);
+          (vain_pairs (listing s past m) acts literals clause places l all a.place a.at a.found other (h.numbers a.place a.at a.found).0 own);
     }
 
 -- ---- one partner after another
@@ -205,3 +207,36 @@ activated_whole s past m clause index busy h =
       activations = activated_activations s past m clause index.activations.items busy h.activations;
       literals = subst (λ ls. HasLiterals ls index.activations.items index.literals) (sym same.lines) h.literals;
     }
+
+abbrev is_resting : Event → Bool
+is_resting (Claim node) = true
+is_resting (Choose node clause selected) = true
+is_resting _ = false
+
+-- an event that publishes and activates nothing keeps all of it
+quiet_work : (s : Setting) (past : List Entry) (w : ℕ) (ev : Event) → is_resting ev ≡ true → KeepsWork s past (record { by = w; event = ev } ∷ past)
+quiet_work s past w (Claim node) e =
+    let k = quiet_tree s past w (Claim node) refl in
+    let same = quiet_listing s past w (Claim node) refl in
+    record { count = k.count; paths = λ m n. same_paths past m n; worked = λ m n. refl; dead = λ m there d. k.stays m d; longer = omega (arith, ap length same.lines); lines = λ i low. ap (λ ls. slice_get ls i) same.lines }
+quiet_work s past w (Choose node clause selected) e =
+    let k = quiet_tree s past w (Choose node clause selected) refl in
+    let same = quiet_listing s past w (Choose node clause selected) refl in
+    record { count = k.count; paths = λ m n. same_paths past m n; worked = λ m n. refl; dead = λ m there d. k.stays m d; longer = omega (arith, ap length same.lines); lines = λ i low. ap (λ ls. slice_get ls i) same.lines }
+quiet_work s past w _ e = absurd (false≢true e)
+
+pub choice_whole : (s : Setting) (past : List Entry) (m clause : ℕ) (index : Index) → IsWhole s past index nothing_else → IsWhole s (after_choice past m clause) index nothing_else
+choice_whole s past m clause index h =
+    let same = quiet_listing s past 1 (Choose m clause None) refl in
+    record {
+      lines = same_lines s past (after_choice past m clause) index same h.lines;
+      activations = activations_keep s past (after_choice past m clause) index.activations.items nothing_else (quiet_work s past 1 (Choose m clause None) refl) h.activations;
+      literals = subst (λ ls. HasLiterals ls index.activations.items index.literals) (sym same.lines) h.literals;
+    }
+
+pub claim_index : (s : Setting) (past : List Entry) (m : ℕ) (index : Index) → IsIndex s past index → IsIndex s (after_claim past m) index
+claim_index s past m index h = index_keeps s past (after_claim past m) index (quiet_work s past 1 (Claim m) refl) h
+
+-- where all lines are filed
+pub index_whole : (s : Setting) (past : List Entry) (index : Index) (clauses : Filing) → IsIndex s past index → HasFiled (ledger s past) clauses → IsWhole s past (record { clauses = clauses; activations = index.activations; literals = index.literals }) nothing_else
+index_whole s past index clauses h filed = record { lines = filed; activations = h.activations; literals = h.literals }

@@ -1,7 +1,7 @@
-use std::alloc::AllocError;
-
 ghost use Rattle.std.specs.Prelude.{◌≡◌};
 ghost use Rattle.worker_cases.specs.declared.halt.Halt.TheVariants as halt;
+
+use std::alloc::AllocError;
 
 /// Why a worker stopped at a node.
 #[derive(Clone, Copy, Debug, PartialEq, Eq)]

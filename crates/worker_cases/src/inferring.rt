@@ -137,28 +137,8 @@ fn resolve_place(
     ensures left { IfErr result (IsLeft table.new index.new) }
     ensures rounds { rounds table.new.past ≡ rounds table.old.past }
 {
-    resolve_part(
-        alloc,
-        table,
-        node,
-        index,
-        clause,
-        i,
-        Part::Constraint,
-        m,
-        n,
-    )?;
-    resolve_part(
-        alloc,
-        table,
-        node,
-        index,
-        clause,
-        i,
-        Part::Antecedent,
-        m,
-        n,
-    )?;
+    resolve_part(alloc, table, node, index, clause, i, Part::Constraint, m, n)?;
+    resolve_part(alloc, table, node, index, clause, i, Part::Antecedent, m, n)?;
     Ok(())
 }
 

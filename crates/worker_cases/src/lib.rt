@@ -2,6 +2,7 @@
 //! says why nothing is left to do.
 #![tactic(auto)]
 
+mod cases;
 mod filing;
 mod halt;
 mod index;
@@ -9,6 +10,9 @@ mod inferring;
 mod ledger;
 mod partners;
 mod publishing;
+mod rounds;
+#[cfg(test)]
+mod tests;
 mod working;
 
-pub use working::work_off;
+pub use cases::alone;

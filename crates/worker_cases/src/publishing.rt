@@ -86,7 +86,13 @@ fn close_case(
 }
 
 /// Publishes a clause that is not empty at the node to which it belongs.
-fn publish_line(alloc: Global, table: &mut Table, node: u32, clause: u32, line: Line) -> Result<(), AllocError>
+fn publish_line(
+    alloc: Global,
+    table: &mut Table,
+    node: u32,
+    clause: u32,
+    line: Line,
+) -> Result<(), AllocError>
     requires busy { IsBusy table.old.setting table.old.past node clause }
     requires new { IsNewLine table.old.setting table.old.past node clause line }
     requires few { counted table.old.past < table.old.setting.limits.steps }
@@ -114,7 +120,13 @@ fn publish_line(alloc: Global, table: &mut Table, node: u32, clause: u32, line: 
 }
 
 /// Ends the journal, since the step is one more than may be published.
-fn end_full(alloc: Global, table: &mut Table, node: u32, clause: u32, line: Line) -> Result<(), Halt>
+fn end_full(
+    alloc: Global,
+    table: &mut Table,
+    node: u32,
+    clause: u32,
+    line: Line,
+) -> Result<(), Halt>
     requires busy { IsBusy table.old.setting table.old.past node clause }
     requires new { IsNewLine table.old.setting table.old.past node clause line }
     requires many { table.old.setting.limits.steps ≤ counted table.old.past }

@@ -17,7 +17,7 @@ pub close-requires-clause-legal : goal.close-requires-clause-legal
 close-requires-clause-legal c =
     let t = c.args.table.now in
     subst (λ chain. IsLegal t.setting t.past 1 (Publish c.owner-at.result chain false)) (sym c.in_ok-chain.ensures)
-      (subst (λ n. IsLegal t.setting t.past 1 (Publish n (c.args.line ∷ []) false)) (sym c.owner-at.ensures) (legal_publish t.setting t.past c.args.node c.args.clause c.args.line c.order_stays.ensures c.requires.busy c.requires.new c.requires.few))
+    (subst (λ n. IsLegal t.setting t.past 1 (Publish n (c.args.line ∷ []) false)) (sym c.owner-at.ensures) (legal_publish t.setting t.past c.args.node c.args.clause c.args.line c.order_stays.ensures c.requires.busy c.requires.new c.requires.few))
 
 pub returns-then-is_some-clause-rounds : goal.returns-then-is_some-clause-rounds
 returns-then-is_some-clause-rounds c =

@@ -16,8 +16,8 @@ returns-clause-index c =
     let index = c.args.index.now in
     let added = subst (λ n. IsAdded index.clauses.entries.items c.file.new.self.entries.items c.clause_key-key.result n) c.steps.ensures c.in_ok-file.ensures.added in
     published_whole old.setting new.setting old.past new.past index c.file.new.self (pending c.args.node c.args.clause) p.step.setting p.work
-      (has_filed_more (ledger old.setting old.past) (ledger new.setting new.past) _ index.clauses c.file.new.self c.clause_key-key.result (steps new.setting new.past) p.lines c.clause_key-key.ensures (omega arith) c.requires.index.lines c.file.ensures.linked added)
-      c.requires.index
+    (has_filed_more (ledger old.setting old.past) (ledger new.setting new.past) _ index.clauses c.file.new.self c.clause_key-key.result (steps new.setting new.past) p.lines c.clause_key-key.ensures (omega arith) c.requires.index.lines c.file.ensures.linked added)
+    c.requires.index
 
 pub returns-clause-covered : goal.returns-clause-covered
 returns-clause-covered c =

@@ -27,8 +27,8 @@ activated_on_path-requires-clause-within c = λ v e.
     let index = c.args.index.now in
     let own : Activation = record { clause = c.args.clause; node = c.args.node } in
     let lits = literals_more (ledger t.setting t.past) index.activations.items own index.literals c.file_clause.new.literals c.requires.index.literals c.file_clause.ensures.linked
-      (subst (FilesOnly index.literals.entries.items c.file_clause.new.literals.entries.items) c.in_ok-place.ensures c.in_ok-file_clause.ensures.only)
-      (λ l at. subst (HasClause c.file_clause.new.literals.entries.items l.stated.clause) c.in_ok-place.ensures (the_line (ledger t.setting t.past) c.args.clause c.line.result.now l (λ (k : Line). HasClause c.file_clause.new.literals.entries.items k.stated.clause c.in_ok-place.place) c.line.ensures at c.in_ok-file_clause.ensures.clause)) in
+    (subst (FilesOnly index.literals.entries.items c.file_clause.new.literals.entries.items) c.in_ok-place.ensures c.in_ok-file_clause.ensures.only)
+    (λ l at. subst (HasClause c.file_clause.new.literals.entries.items l.stated.clause) c.in_ok-place.ensures (the_line (ledger t.setting t.past) c.args.clause c.line.result.now l (λ (k : Line). HasClause c.file_clause.new.literals.entries.items k.stated.clause c.in_ok-place.place) c.line.ensures at c.in_ok-file_clause.ensures.clause)) in
     let f = c.in_ok-places.ensures.filed v (subst (λ vs. is_in vs v ≡ true) c.as_slice-2.ensures.value e) in
     omega (arith, lits.only f.0 v f.1, ap length c.in_ok-push.ensures.items, ap length c.as_slice.ensures.value)
 
@@ -38,8 +38,8 @@ returns-clause-index c =
     let index = c.args.index.now in
     let own : Activation = record { clause = c.args.clause; node = c.args.node } in
     let lits = literals_more (ledger t.setting t.past) index.activations.items own index.literals c.file_clause.new.literals c.requires.index.literals c.file_clause.ensures.linked
-      (subst (FilesOnly index.literals.entries.items c.file_clause.new.literals.entries.items) c.in_ok-place.ensures c.in_ok-file_clause.ensures.only)
-      (λ l at. subst (HasClause c.file_clause.new.literals.entries.items l.stated.clause) c.in_ok-place.ensures (the_line (ledger t.setting t.past) c.args.clause c.line.result.now l (λ (k : Line). HasClause c.file_clause.new.literals.entries.items k.stated.clause c.in_ok-place.place) c.line.ensures at c.in_ok-file_clause.ensures.clause)) in
+    (subst (FilesOnly index.literals.entries.items c.file_clause.new.literals.entries.items) c.in_ok-place.ensures c.in_ok-file_clause.ensures.only)
+    (λ l at. subst (HasClause c.file_clause.new.literals.entries.items l.stated.clause) c.in_ok-place.ensures (the_line (ledger t.setting t.past) c.args.clause c.line.result.now l (λ (k : Line). HasClause c.file_clause.new.literals.entries.items k.stated.clause c.in_ok-place.place) c.line.ensures at c.in_ok-file_clause.ensures.clause)) in
     let pend = pending_activations t.setting t.past c.args.node c.args.clause index.activations.items c.requires.busy c.requires.index.activations in
     record {
       lines = c.requires.index.lines;
@@ -54,13 +54,13 @@ returns-clause-all c =
     let index = c.args.index.now in
     let own : Activation = record { clause = c.args.clause; node = m } in
     let lits = literals_more (ledger t.setting t.past) index.activations.items own index.literals c.file_clause.new.literals c.requires.index.literals c.file_clause.ensures.linked
-      (subst (FilesOnly index.literals.entries.items c.file_clause.new.literals.entries.items) c.in_ok-place.ensures c.in_ok-file_clause.ensures.only)
-      (λ l at. subst (HasClause c.file_clause.new.literals.entries.items l.stated.clause) c.in_ok-place.ensures (the_line (ledger t.setting t.past) c.args.clause c.line.result.now l (λ (k : Line). HasClause c.file_clause.new.literals.entries.items k.stated.clause c.in_ok-place.place) c.line.ensures at c.in_ok-file_clause.ensures.clause)) in
+    (subst (FilesOnly index.literals.entries.items c.file_clause.new.literals.entries.items) c.in_ok-place.ensures c.in_ok-file_clause.ensures.only)
+    (λ l at. subst (HasClause c.file_clause.new.literals.entries.items l.stated.clause) c.in_ok-place.ensures (the_line (ledger t.setting t.past) c.args.clause c.line.result.now l (λ (k : Line). HasClause c.file_clause.new.literals.entries.items k.stated.clause c.in_ok-place.place) c.line.ensures at c.in_ok-file_clause.ensures.clause)) in
     let pend = pending_activations t.setting t.past m c.args.clause index.activations.items c.requires.busy c.requires.index.activations in
     let acts = c.as_slice.ensures.value ∙ c.in_ok-push.ensures.items in
     let p = c.in_ok-partners.ensures in
     let numbers = c.in_ok-partners.partners.items in
     all_partners t.setting t.past m c.args.clause index.activations.items c.file_clause.new.literals c.in_ok-places.places.items numbers c.requires.busy pend lits
-      (λ l at. the_line (ledger t.setting t.past) c.args.clause c.line.result.now l (λ (k : Line). HasPartners c.file_clause.new.literals.entries.items k.stated.clause c.in_ok-places.places.items) c.line.ensures at c.in_ok-places.ensures.all)
-      (λ x e. subst (λ as'. IsActivation t.past as' m x) acts (p.given x e))
-      (subst (λ vs. AreGathered t.past (index.activations.items ++ own ∷ []) m vs numbers) c.as_slice-2.ensures.value (subst (λ as'. AreGathered t.past as' m c.as_slice-2.result.now numbers) acts p.all))
+    (λ l at. the_line (ledger t.setting t.past) c.args.clause c.line.result.now l (λ (k : Line). HasPartners c.file_clause.new.literals.entries.items k.stated.clause c.in_ok-places.places.items) c.line.ensures at c.in_ok-places.ensures.all)
+    (λ x e. subst (λ as'. IsActivation t.past as' m x) acts (p.given x e))
+    (subst (λ vs. AreGathered t.past (index.activations.items ++ own ∷ []) m vs numbers) c.as_slice-2.ensures.value (subst (λ as'. AreGathered t.past as' m c.as_slice-2.result.now numbers) acts p.all))

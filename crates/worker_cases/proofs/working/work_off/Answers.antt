@@ -51,7 +51,7 @@ apply-requires-clause-legal c =
     let covered = all_covered t u a.node a.clause c.loop-k.index c.in_ok-partners.partners.items c.loop-k.k c.in_ok-partners.ensures.all c.loop-k.invariant (omega (arith, c.loop-k-test.false, c.len-k-end.ensures)) in
     let unsplit = unsplit_more t u a.node a.clause c.requires.busy c.loop-k.invariant.step c.requires.unsplit in
     moved (λ s p. IsLegal s p 1 (Activate a.node)) u.setting c.reserve.new.self.setting u.past c.reserve.new.self.past c.reserve.ensures.setting c.reserve.ensures.past
-      (legal_activate u.setting u.past a.node a.clause c.loop-k.invariant.step.busy unsplit covered)
+    (legal_activate u.setting u.past a.node a.clause c.loop-k.invariant.step.busy unsplit covered)
 
 pub returns-clause-idle : goal.returns-clause-idle
 returns-clause-idle c =
@@ -71,4 +71,4 @@ returns-clause-index c =
     let new = c.apply.new.self in
     let r = c.reserve.ensures in
     moved (λ s p. IsWhole s p c.loop-k.index nothing_else) u.setting new.setting (after_activation u.past m) new.past (c.apply.ensures.setting ∙ r.setting) (c.apply.ensures.past ∙ ap (λ p. after_activation p m) r.past)
-      (activated_whole u.setting u.past m c.args.clause c.loop-k.index c.loop-k.invariant.step.busy c.loop-k.invariant.index)
+    (activated_whole u.setting u.past m c.args.clause c.loop-k.index c.loop-k.invariant.step.busy c.loop-k.invariant.index)
