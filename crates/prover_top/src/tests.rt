@@ -195,27 +195,38 @@ fn is_full_after_one(table: &Table) -> bool {
 }
 
 #[test]
-fn journals_at_the_root(rt: HostRuntime) -> Result<(), Fail> {
+fn an_empty_problem_is_complete_at_once(rt: HostRuntime) -> Result<(), Fail> {
     let alloc = rt.alloc();
     let mut nothing = String::from_str(alloc, HEAD)?;
     nothing.push_str("end_problem.")?;
     let text = "Completion found.\nCase 0: kept 0, put off 0.\n";
-    let table = tables(&rt, alloc, &["prove"], nothing.as_str(), 1, text)?;
-    assert!(rt; is_complete_at_once(&table));
-    let none = ["prove", "--rounds", "0"];
-    let table = tables(&rt, alloc, &none, nothing.as_str(), 1, text)?;
-    assert!(rt; is_complete_at_once(&table));
+    let cases: [&[&str]; 2] = [&["prove"], &["prove", "--rounds", "0"]];
+    for words in cases {
+        let table = tables(&rt, alloc, words, nothing.as_str(), 1, text)?;
+        assert!(rt; is_complete_at_once(&table));
+    }
+    Ok(())
+}
 
+#[test]
+fn an_empty_clause_is_a_proof_without_events(rt: HostRuntime) -> Result<(), Fail> {
+    let alloc = rt.alloc();
     let empty = problem(alloc, "", &["or(false)"])?;
-    let table = tables(&rt, alloc, &["prove"], empty.as_str(), 0, EMPTY_PROOF)?;
-    assert_eq!(rt; table.events(), 0);
-    let table = tables(&rt, alloc, &none, empty.as_str(), 0, EMPTY_PROOF)?;
-    assert_eq!(rt; table.events(), 0);
-    assert_eq!(rt; table.limits().rounds, 0);
+    let cases: [&[&str]; 2] = [&["prove"], &["prove", "--rounds", "0"]];
+    for words in cases {
+        let table = tables(&rt, alloc, words, empty.as_str(), 0, EMPTY_PROOF)?;
+        assert_eq!(rt; table.events(), 0);
+    }
+    Ok(())
+}
 
+#[test]
+fn the_rounds_are_spent_after_the_first(rt: HostRuntime) -> Result<(), Fail> {
+    let alloc = rt.alloc();
     let two = problem(alloc, TWO, &["P(a)", "not(P(a))"])?;
-    let one = ["prove", "--rounds", "1"];
-    let table = tables(&rt, alloc, &one, two.as_str(), 2, "Gave up: rounds 1.\n")?;
+    let words = ["prove", "--rounds", "1"];
+    let table = tables(&rt, alloc, &words, two.as_str(), 2, "Gave up: rounds 1.\n")?;
+    assert_eq!(rt; table.limits().rounds, 1);
     assert!(rt; is_spent_after_the_first(&table));
     Ok(())
 }
