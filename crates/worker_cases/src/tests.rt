@@ -1,3 +1,5 @@
+ghost use Rattle.std.specs.Prelude.{◌≡◌};
+
 use super::*;
 use spl_terms::{Atom, Clause, Items, Kind, Symbol, Term};
 use split_tree::{End, Event, Limits, Table};
@@ -43,7 +45,9 @@ fn clauses(alloc: Global, literals: &[Literal]) -> Result<Vec<Clause>, AllocErro
     Ok(clauses)
 }
 
-fn limits(rounds: u32, steps: u32) -> Limits {
+fn limits(rounds: u32, steps: u32) -> Limits
+    ensures { result.splits ≡ 0 }
+{
     Limits {
         rounds,
         steps,
