@@ -6,20 +6,17 @@ use Rattle.outside_io.specs.Outside.{Rose, CameWhole, CamePast}
 use Rattle.spl_symbols.specs.Symbols.{Declared}
 use Rattle.proof_steps.specs.declared.step.Line.{Line}
 use Rattle.split_tree.specs.declared.event.Limits.{Limits}
-use Rattle.split_tree.specs.declared.event.End.{End}
-use Rattle.split_tree.specs.declared.event.End.TheVariants.{Proved}
 use Rattle.split_tree.specs.State.{State}
-use Rattle.split_tree.specs.Ending.{reason}
 use Rattle.dfg_reader.specs.declared.fault.ReadFault.{ReadFault as Fault}
 use Rattle.dfg_reader.specs.declared.problem.Problem.{Problem}
 use Rattle.dfg_reader.specs.Problems.{problem}
 use Rattle.prover_top.specs.declared.answers.Answer.{Answer}
 use Rattle.prover_top.specs.declared.answers.Answer.TheVariants.{ProofFound, Completion, Rounds, Steps, Size, Words, Input, TooLong, ReadFault, Memory}
 use Rattle.prover_top.specs.Words.{limits_of}
-use Rattle.prover_top.specs.Endings.{IsComplete, IsSpent, IsFull, IsLarge}
+use Rattle.prover_top.specs.Endings.{IsContradicted, IsComplete, IsSpent, IsFull, IsLarge}
 use Rattle.prover_top.specs.Outcomes.{Call, most_bytes, IsInput, IsRefused, answer_for, answer_of, IsTried, IsCause}
 use Rattle.prover_top.specs.Reports.{IsOutcome, HasTable, HasProof, IsOfProving, IsUnlessMemory, IsTold}
-use Rattle.prover_top.proofs.Ends.{IsCaused, caused, proved_by}
+use Rattle.prover_top.proofs.Ends.{IsCaused, caused, proved_of}
 use Rattle.prover_top.proofs.Causes.{memory}
 
 -- the cause of what is reported
@@ -115,9 +112,9 @@ module _ (call : Call) (reported : Answer) (failed : Bool) (old new : Option (Li
   has_answer None o = tt
   has_answer (Some t) o = (tried_at t o).2.decided.1.is
 
-  pub proof_always : (table : Option State) → IsOutcome call table reported failed old new → IfSome table (λ t. reason t.setting t.past ≡ Some Proved → IsUnlessMemory ProofFound reported)
+  pub proof_always : (table : Option State) → IsOutcome call table reported failed old new → IfSome table (λ t. IsContradicted t → IsUnlessMemory ProofFound reported)
   proof_always None o = tt
-  proof_always (Some t) o = λ e. subst (λ r. IsUnlessMemory (answer_for t r) reported) e (has_answer (Some t) o)
+  proof_always (Some t) o = λ c. subst (λ r. IsUnlessMemory (answer_for t r) reported) (proved_of t c) (has_answer (Some t) o)
 
   none_of : (answer : Answer) → reported ≡ answer → (answer ≡ Memory → ⊥) → IsOutcome call None reported failed old new → ((s : List Declared) (p : List Line) → IsCause call s None p answer → answer ≡ Memory) → ⊥
   none_of answer e not_memory o only =

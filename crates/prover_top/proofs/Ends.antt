@@ -123,6 +123,30 @@ ends_by t x f ev e = record {
   legal = subst (IsLegal t.setting f.before f.by) e f.legal;
 }
 
+-- ---- the reason, from the event
+
+first_end_later : (past later : List Entry) (x : End) → first_end past ≡ Some x → first_end (later ++ past) ≡ Some x
+first_end_later past [] x h = h
+first_end_later past (e ∷ later) x h = ap (λ o. or_else o (end_by e.event)) (first_end_later past later x h)
+
+-- a table with a contradiction is proved
+pub proved_of : (t : State) → IsContradicted t → reason t.setting t.past ≡ Some ends.Proved
+proved_of t (inl h) = ap (λ b. if b then Some ends.Proved else first_end t.past) h
+proved_of t (inr p) = by_test (has_empty t.setting.input)
+  where
+    end_is : first_end t.past ≡ Some ends.Proved
+    end_is =
+        let event = Publish p.node p.chain p.put_off in
+        let entry : Entry = record { by = p.ends.by; event = event } in
+        let here : first_end (entry ∷ p.ends.before) ≡ Some ends.Proved =
+        ap (λ o. or_else o (end_by event)) p.ends.first.unended
+        ∙ ap (λ b. if b then Some ends.Proved else None) p.empty in
+        ap first_end p.ends.first.is ∙ first_end_later (entry ∷ p.ends.before) p.ends.first.later ends.Proved here
+
+    by_test : (b : Bool) → (if b then Some ends.Proved else first_end t.past) ≡ Some ends.Proved
+    by_test true = refl
+    by_test false = end_is
+
 -- ---- what a Stop leaves
 
 stop_is : (ev : Event) → is_stop ev ≡ true → ev ≡ Stop

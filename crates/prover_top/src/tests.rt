@@ -443,6 +443,7 @@ fn faults_of_the_source_and_of_the_sink(rt: HostRuntime) -> Result<(), Fail> {
     let mut sink = SureSink::new(alloc);
     let report = run_alone(alloc, words.as_slice(), &mut source, &mut sink);
     assert_eq!(rt; report.status, 6);
+    assert!(rt; report.table.is_none());
     assert_eq!(rt; report.answer, Answer::ReadFault);
     assert_eq!(rt; sink.written(), b"Read fault.\n".as_slice());
 
@@ -453,6 +454,7 @@ fn faults_of_the_source_and_of_the_sink(rt: HostRuntime) -> Result<(), Fail> {
     assert_eq!(rt; report.status, 7);
     assert_eq!(rt; report.answer, Answer::ProofFound);
     assert_eq!(rt; report.write_failed, true);
+    assert!(rt; report.table.is_some());
     assert_eq!(rt; sink.written(), b"Proof".as_slice());
     Ok(())
 }

@@ -2,15 +2,13 @@
 ghost use Rattle.std.specs.Prelude.{◌≡◌, ℕ, ◌<◌, ◌≤◌, ◌^◌, [], List, map, length, Some, None, Ok, Err, IfSome, IsSomeAnd, IsTrue};
 ghost use Rattle.std.specs.String.{string_bytes};
 ghost use Rattle.outside_io.specs.Outside.{Rose, CamePast};
-ghost use Rattle.split_tree.specs.declared.event.End.TheVariants.{Proved};
-ghost use Rattle.split_tree.specs.Ending.{reason};
 ghost use Rattle.dfg_reader.specs.declared.fault.ReadFault.{ReadFault as Fault};
 ghost use Rattle.prover_top.specs.Words.{limits_of};
 ghost use Rattle.prover_top.specs.Answers.{reported_status};
 ghost use Rattle.dfg_reader.specs.declared.problem.Problem.{Problem};
 ghost use Rattle.dfg_reader.specs.Problems.{problem};
 ghost use Rattle.dfg_reader.specs.GroundClauses.{clauses, HasLimits};
-ghost use Rattle.prover_top.specs.Endings.{IsComplete, IsSpent, IsFull, IsLarge};
+ghost use Rattle.prover_top.specs.Endings.{IsContradicted, IsComplete, IsSpent, IsFull, IsLarge};
 ghost use Rattle.prover_top.specs.Outcomes.{IsCause, IsDecided, IsRefused, answer_of, most_bytes};
 ghost use Rattle.prover_top.specs.Reports.{HasTable, HasProof, IsRead, IsOutcome, IsUnlessMemory, IsOfProving, IsTold};
 
@@ -162,7 +160,7 @@ pub fn run_alone<S: Source, K: Sink>(
 
     // A proof exactly where a contradiction ended proving, and what it shows.
     ensures proof { result.answer ≡ Answer.ProofFound → IsSomeAnd result.table HasProof }
-    ensures proof_always { IfSome result.table (λ t. reason t.setting t.past ≡ Some Proved → IsUnlessMemory Answer.ProofFound result.answer) }
+    ensures proof_always { IfSome result.table (λ t. IsContradicted t → IsUnlessMemory Answer.ProofFound result.answer) }
 
     // Why proving ended otherwise.
     ensures completion { (node kept put_off : ℕ) → result.answer ≡ Answer.Completion node kept put_off → IsSomeAnd result.table (IsComplete node kept put_off) }
