@@ -131,7 +131,7 @@ module _ (call : Call) (reported : Answer) (failed : Bool) (old new : Option (Li
   cause_of : (t : State) → IsOutcome call (Some t) reported failed old new → (answer : Answer) → reported ≡ answer → (answer ≡ Memory → ⊥) → IsCaused t answer
   cause_of t o answer e not_memory =
       let of = (tried_at t o).2.decided.0 in
-      subst (IsCaused t) (sym (is_answer t o answer e not_memory)) (caused t of.legal (ap (λ l. l.splits) of.limits_are ∙ of.unsplit))
+      subst (IsCaused t) (sym (is_answer t o answer e not_memory)) (caused t of.legal)
 
   pub proof_only : (table : Option State) → IsOutcome call table reported failed old new → reported ≡ ProofFound → IsSomeAnd table HasProof
   proof_only None o e = none_of ProofFound e (λ f. absurd (cc)) o (λ s p h. h.decided)

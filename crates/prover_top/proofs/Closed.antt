@@ -17,14 +17,16 @@ use Rattle.proof_steps.specs.Covering.{IsSubsumedByOne, IsCoveredBy, AreCoveredB
 use Rattle.split_tree.specs.declared.event.Entry.{Entry}
 use Rattle.split_tree.specs.declared.event.Event.{Event}
 use Rattle.split_tree.specs.declared.event.Event.TheVariants.{Choose, Publish, Split, Activate}
-use Rattle.split_tree.specs.Journal.{Setting, ledger, lines_of, nodes, splits, steps}
+use Rattle.split_tree.specs.Journal.{Setting, ledger, lines_of, nodes, nodes_of, steps}
 use Rattle.split_tree.specs.Paths.{stem, on_path}
 use Rattle.split_tree.specs.Facts.{listed, lists, kept, worked, split, chosen, chosen_by, activates, is_number}
 use Rattle.split_tree.specs.Picking.{is_passive, passing, passive, pick_at, choices, weighed}
 use Rattle.split_tree.specs.Legal.{IsAsked, IsLegalJournal, IsPartner, IsPair, IsListedAs, IsListed}
 use Rattle.split_tree.proofs.Homes.{listed_within}
 use Rattle.split_tree.proofs.Lists.{get_more, get_left}
-use Rattle.split_tree.proofs.Picks.{pick_passive}
+use Rattle.split_tree.proofs.Climb.{leaf_path}
+use Rattle.split_tree.proofs.Places.{stem_there}
+use Rattle.split_tree.proofs.Depends.{chosen_listed}
 use Rattle.prover_top.specs.Endings.{IsClosed}
 
 or_cases : (a b : Bool) → (a || b) ≡ true → (a ≡ true) ⊎ (b ≡ true)
@@ -102,94 +104,64 @@ covered_by_more : (These Those : Clause → Type 0) (c : Clause) → ((d : Claus
 covered_by_more These Those c more (inl t) = inl t
 covered_by_more These Those c more (inr o) = inr (record { by = o.by; among = more o.by o.among; subsumes = o.subsumes })
 
--- ---- a journal that splits no clause
+-- ---- legal journals
 
-module _ (s : Setting) (unsplit : s.limits.splits ≡ 0) (m : ℕ) where
-  no_split : (past : List Entry) → splits past < s.limits.splits → ⊥
-  no_split past h = absurd (omega (arith, unsplit, h))
+number_is : (o : Option ℕ) (i : ℕ) → is_number o i ≡ true → o ≡ Some i
+number_is None i h = absurd (false≢true h)
+number_is (Some n) i h = ap Some (eqb-true n i h)
 
-  stem_is : (past : List Entry) (w : ℕ) (ev : Event) → IsAsked s past w ev → stem ev (nodes past) m ≡ m
-  stem_is past w (Split node lines put_off) a = absurd (no_split past a.asked.free)
-  stem_is past w _ a = refl
+module _ (s : Setting) where
+  -- where m hung before the entry
+  abbrev Before : List Entry → Entry → ℕ → ℕ
+  Before past e m = stem e.event (nodes past) m
 
-  path_is : (past : List Entry) → IsLegalJournal s past → (n : ℕ) → on_path past m n ≡ true → n ≡ m
-  path_is [] legal n h = eqb-true n m h
-  path_is (e ∷ past) legal n h = elim (or_cases (eqb n m) (on_path past (stem e.event (nodes past) m) n) h) [
-    | inl same ↦ eqb-true n m same
-    | inr old ↦ path_is past legal.1 n (subst (λ k. on_path past k n ≡ true) (stem_is past e.by e.event legal.0.asked) old)
-  ]
+  listed_more : (past : List Entry) (e : Entry) (m i : ℕ) → listed s past (Before past e m) i ≡ true → listed s (e ∷ past) m i ≡ true
+  listed_more past e m i h = or_right (lists e.event (nodes past) (steps s past) (on_path past m) m i) (listed s past (Before past e m) i) h
 
-  listed_more : (past : List Entry) (e : Entry) → IsAsked s past e.by e.event → (i : ℕ) → listed s past m i ≡ true → listed s (e ∷ past) m i ≡ true
-  listed_more past e a i h =
-      or_right (lists e.event (nodes past) (steps s past) (on_path past m) m i) (listed s past (stem e.event (nodes past) m) i)
-      (subst (λ k. listed s past k i ≡ true) (sym (stem_is past e.by e.event a)) h)
-
-  -- what is chosen is kept
-  chosen_kept : (past : List Entry) → IsLegalJournal s past → (i : ℕ) → chosen past m ≡ Some i → kept s past m i ≡ true
-  chosen_kept [] legal i h = absurd (cc)
-  chosen_kept (e ∷ past) legal i h = listed_more past e legal.0.asked i (by_event (λ g. chosen_kept past legal.1 i g) e.event legal.0.asked h)
-    where
-      by_event : (chosen past m ≡ Some i → kept s past m i ≡ true) → (ev : Event) → IsAsked s past e.by ev → chosen_by ev m (chosen past m) ≡ Some i → listed s past m i ≡ true
-      by_event earlier (Choose node clause selected) a g = elim (cases_Bool (eqb node m)) [
-        | inl same ↦
-            let f : Some clause ≡ Some i = sym (cond-true (eqb node m) (Some clause) (chosen past m) same) ∙ g in
-            let q : clause ≡ i = cc in
-            let t : listed s past node clause ≡ true = (and_parts (listed s past node clause) (not (worked past node clause) && not (split past node clause)) (pick_passive s past node clause a.picked)).0 in
-            subst (λ n. listed s past n i ≡ true) (eqb-true node m same) (subst (λ c. listed s past node c ≡ true) q t)
-        | inr other ↦ earlier (sym (cond-false (eqb node m) (Some clause) (chosen past m) other) ∙ g)
-      ]
-      by_event earlier (Activate node) a g = elim (cases_Bool (eqb node m)) [
-        | inl same ↦ let f : None ≡ Some i = sym (cond-true (eqb node m) None (chosen past m) same) ∙ g in absurd (cc)
-        | inr other ↦ earlier (sym (cond-false (eqb node m) None (chosen past m) other) ∙ g)
-      ]
-      by_event earlier _ a g = earlier g
-
-  number_is : (o : Option ℕ) (i : ℕ) → is_number o i ≡ true → o ≡ Some i
-  number_is None i h = absurd (false≢true h)
-  number_is (Some n) i h = ap Some (eqb-true n i h)
-
-  -- clause i is activated now at the node, where it was chosen
-  record IsNow (past : List Entry) (ev : Event) (i : ℕ) : Type 0 where
+  -- clause i is activated now at m, where it was chosen
+  record IsNow (past : List Entry) (ev : Event) (m i : ℕ) : Type 0 where
     is : ev ≡ Activate m
     chosen_there : chosen past m ≡ Some i
 
   -- what was worked off was so before, or is activated now
-  worked_cases : (past : List Entry) (e : Entry) → IsLegalJournal s (e ∷ past) → (i : ℕ) → worked (e ∷ past) m i ≡ true → IsNow past e.event i ⊎ (worked past m i ≡ true)
-  worked_cases past e legal i h = by_event e.event legal.0.asked (or_cases (activates e.event (chosen past) (on_path past (stem e.event (nodes past) m)) i) (worked past (stem e.event (nodes past) m) i) h)
+  worked_cases : (past : List Entry) (e : Entry) → IsLegalJournal s (e ∷ past) → (m i : ℕ) → m < nodes (e ∷ past) → worked (e ∷ past) m i ≡ true → IsNow past e.event m i ⊎ (worked past (Before past e m) i ≡ true)
+  worked_cases past e legal m i there h =
+      by_event e.event legal.0.asked there (or_cases (activates e.event (chosen past) (on_path past (Before past e m)) i) (worked past (Before past e m) i) h)
     where
-      by_event : (ev : Event) → IsAsked s past e.by ev → (activates ev (chosen past) (on_path past (stem ev (nodes past) m)) i ≡ true) ⊎ (worked past (stem ev (nodes past) m) i ≡ true) → IsNow past ev i ⊎ (worked past m i ≡ true)
-      by_event ev a (inr old) = inr (subst (λ k. worked past k i ≡ true) (stem_is past e.by ev a) old)
-      by_event (Activate node) a (inl now) =
+      by_event : (ev : Event) → IsAsked s past e.by ev → m < nodes past + nodes_of ev → (activates ev (chosen past) (on_path past (stem ev (nodes past) m)) i ≡ true) ⊎ (worked past (stem ev (nodes past) m) i ≡ true)
+          → IsNow past ev m i ⊎ (worked past (stem ev (nodes past) m) i ≡ true)
+      by_event ev a low (inr old) = inr old
+      by_event (Activate node) a low (inl now) =
           let p = and_parts (on_path past m node) (is_number (chosen past node) i) now in
-          let at = path_is past legal.1 node p.0 in
+          let at = leaf_path s past legal.1 m node (omega (arith, low)) a.holds.leaf p.0 in
           inl (record { is = ap Activate at; chosen_there = subst (λ n. chosen past n ≡ Some i) at (number_is (chosen past node) i p.1) })
-      by_event _ a (inl now) = absurd (false≢true now)
+      by_event _ a low (inl now) = absurd (false≢true now)
 
-  worked_kept : (past : List Entry) → IsLegalJournal s past → (i : ℕ) → worked past m i ≡ true → kept s past m i ≡ true
-  worked_kept [] legal i h = absurd (false≢true h)
-  worked_kept (e ∷ past) legal i h = listed_more past e legal.0.asked i (elim (worked_cases past e legal i h) [
-    | inl now ↦ chosen_kept past legal.1 i now.chosen_there
-    | inr old ↦ worked_kept past legal.1 i old
+  -- a node hangs where it did when a clause is activated there
+  stays : (past : List Entry) (ev : Event) (m : ℕ) → ev ≡ Activate m → stem ev (nodes past) m ≡ m
+  stays past ev m is = ap (λ v. stem v (nodes past) m) is
+
+  worked_kept : (past : List Entry) → IsLegalJournal s past → (m i : ℕ) → m < nodes past → worked past m i ≡ true → kept s past m i ≡ true
+  worked_kept [] legal m i there h = absurd (false≢true h)
+  worked_kept (e ∷ past) legal m i there h = listed_more past e m i (elim (worked_cases past e legal m i there h) [
+    | inl now ↦ subst (λ k. listed s past k i ≡ true) (sym (stays past e.event m now.is)) (chosen_listed s past legal.1 m i now.chosen_there).1
+    | inr old ↦ worked_kept past legal.1 (Before past e m) i (stem_there s past legal.1 e.by e.event m legal.0.asked there) old
   ])
 
-  -- the clause is activated now, or was worked off before
-  abbrev AtHand : List Entry → ℕ → ℕ → Type 0
-  AtHand past clause i = (i ≡ clause) ⊎ (worked past m i ≡ true)
+  -- the inferences of the two clauses are covered at m
+  abbrev AreCovered : List Entry → ℕ → ℕ → ℕ → Type 0
+  AreCovered past m i j = AreCoveredBy (IsListed s past m) (ledger s past) i j
 
-  hand_kept : (past : List Entry) → IsLegalJournal s past → (clause i : ℕ) → chosen past m ≡ Some clause → AtHand past clause i → kept s past m i ≡ true
-  hand_kept past legal clause i c (inl same) = subst (λ n. kept s past m n ≡ true) (sym same) (chosen_kept past legal clause c)
-  hand_kept past legal clause i c (inr old) = worked_kept past legal i old
-
-  covered_more : (past : List Entry) (e : Entry) → IsLegalJournal s (e ∷ past) → (i j : ℕ) → kept s past m i ≡ true → kept s past m j ≡ true
-      → AreCoveredBy (IsListed s past m) (ledger s past) i j → AreCoveredBy (IsListed s (e ∷ past) m) (ledger s (e ∷ past)) i j
-  covered_more past e legal i j p q h x part y st g =
-      let one = listed_within s past legal.1 m i p in
-      let two = listed_within s past legal.1 m j q in
-      covered_by_more (IsListed s past m) (IsListed s (e ∷ past) m) st.clause
+  covered_more : (past : List Entry) (e : Entry) → IsLegalJournal s (e ∷ past) → (m i j : ℕ) → kept s past (Before past e m) i ≡ true → kept s past (Before past e m) j ≡ true
+      → AreCovered past (Before past e m) i j → AreCovered (e ∷ past) m i j
+  covered_more past e legal m i j p q h x part y st g =
+      let one = listed_within s past legal.1 (Before past e m) i p in
+      let two = listed_within s past legal.1 (Before past e m) j q in
+      covered_by_more (IsListed s past (Before past e m)) (IsListed s (e ∷ past) m) st.clause
       (λ d l. (
         l.0,
         record {
-          lists = listed_more past e legal.0.asked l.0 l.1.lists;
+          lists = listed_more past e m l.0 l.1.lists;
           line = l.1.line;
           found = numbered_more (ledger s past) (lines_of e.event) l.0 l.1.line l.1.found;
           is = l.1.is;
@@ -197,40 +169,64 @@ module _ (s : Setting) (unsplit : s.limits.splits ≡ 0) (m : ℕ) where
       ))
       (h x part y st (sym (resolution_old x part y i j (ledger s past) (lines_of e.event) one.1 two.1) ∙ g))
 
-  premise : (past : List Entry) → IsLegalJournal s past → (clause i : ℕ) → AtHand past clause i → (i ≡ clause) ⊎ IsPartner s past m i
-  premise past legal clause i (inl same) = inl same
-  premise past legal clause i (inr old) = inr (record { worked = old; kept = worked_kept past legal i old })
+  -- the clause is activated now at m, or was worked off before
+  abbrev AtHand : List Entry → ℕ → ℕ → ℕ → Type 0
+  AtHand past m clause i = (i ≡ clause) ⊎ (worked past m i ≡ true)
 
-  -- the inferences of the clause that is activated are covered
-  covered_now : (past : List Entry) (w : ℕ) → IsLegalJournal s past → IsAsked s past w (Activate m) → (clause i j : ℕ) → chosen past m ≡ Some clause → AtHand past clause i → AtHand past clause j → (i ≡ clause) ⊎ (j ≡ clause)
-      → AreCoveredBy (IsListed s past m) (ledger s past) i j
-  covered_now past w legal a clause i j c p q one =
-      let f : Some a.clause ≡ Some clause = sym a.chosen ∙ c in
-      let same : a.clause ≡ clause = cc in
-      let covers = subst (λ n. (k l : ℕ) → IsPair s past m n k l → AreCoveredBy (IsListed s past m) (ledger s past) k l) same a.covered in
-      covers i j (record { left = premise past legal clause i p; right = premise past legal clause j q; one = one })
+  module _ (past : List Entry) (legal : IsLegalJournal s past) (m clause : ℕ) (c : chosen past m ≡ Some clause) where
+    node_within : m < nodes past
+    node_within = (chosen_listed s past legal m clause c).0
 
-  same_clause : (past : List Entry) (i j : ℕ) → chosen past m ≡ Some i → chosen past m ≡ Some j → j ≡ i
-  same_clause past i j a b = let e : Some j ≡ Some i = sym b ∙ a in cc
+    hand_kept : (i : ℕ) → AtHand past m clause i → kept s past m i ≡ true
+    hand_kept i (inl same) = subst (λ n. kept s past m n ≡ true) (sym same) (chosen_listed s past legal m clause c).1
+    hand_kept i (inr old) = worked_kept past legal m i node_within old
+
+    premise : (i : ℕ) → AtHand past m clause i → (i ≡ clause) ⊎ IsPartner s past m i
+    premise i (inl same) = inl same
+    premise i (inr old) = inr (record { worked = old; kept = worked_kept past legal m i node_within old })
+
+    -- the inferences of the clause that is activated are covered
+    covered_now : (w i j : ℕ) → IsAsked s past w (Activate m) → AtHand past m clause i → AtHand past m clause j → (i ≡ clause) ⊎ (j ≡ clause) → AreCovered past m i j
+    covered_now w i j a p q one =
+        let f : Some a.clause ≡ Some clause = sym a.chosen ∙ c in
+        let same : a.clause ≡ clause = cc in
+        let covers = subst (λ n. (k l : ℕ) → IsPair s past m n k l → AreCoveredBy (IsListed s past m) (ledger s past) k l) same a.covered in
+        covers i j (record { left = premise i p; right = premise j q; one = one })
+
+  -- the inferences stay covered where one of the clauses is activated
+  covered_by_now : (past : List Entry) (e : Entry) → IsLegalJournal s (e ∷ past) → (m clause i j : ℕ) → e.event ≡ Activate m → chosen past m ≡ Some clause → AtHand past m clause i → AtHand past m clause j → (i ≡ clause) ⊎ (j ≡ clause)
+      → AreCovered (e ∷ past) m i j
+  covered_by_now past e legal m clause i j is c a b one =
+      let back = sym (stays past e.event m is) in
+      covered_more past e legal m i j
+      (subst (λ k. kept s past k i ≡ true) back (hand_kept past legal.1 m clause c i a))
+      (subst (λ k. kept s past k j ≡ true) back (hand_kept past legal.1 m clause c j b))
+      (subst (λ k. AreCovered past k i j) back (covered_now past legal.1 m clause c e.by i j (subst (IsAsked s past e.by) is legal.0.asked) a b one))
+
+  same_clause : (past : List Entry) (m i j : ℕ) → chosen past m ≡ Some i → chosen past m ≡ Some j → j ≡ i
+  same_clause past m i j a b = let e : Some j ≡ Some i = sym b ∙ a in cc
 
   -- the inferences of what was worked off are covered
-  covered : (past : List Entry) → IsLegalJournal s past → (i j : ℕ) → worked past m i ≡ true → worked past m j ≡ true → AreCoveredBy (IsListed s past m) (ledger s past) i j
-  covered [] legal i j p q = absurd (false≢true p)
-  covered (e ∷ past) legal i j p q = by_cases (λ a b. covered past legal.1 i j a b) (worked_cases past e legal i p) (worked_cases past e legal j q)
+  covered : (past : List Entry) → IsLegalJournal s past → (m i j : ℕ) → m < nodes past → worked past m i ≡ true → worked past m j ≡ true → AreCovered past m i j
+  covered [] legal m i j there p q = absurd (false≢true p)
+  covered (e ∷ past) legal m i j there p q =
+      by_cases (λ a b. covered past legal.1 (Before past e m) i j before a b) (worked_cases past e legal m i there p) (worked_cases past e legal m j there q)
     where
-      step : (clause : ℕ) → e.event ≡ Activate m → chosen past m ≡ Some clause → AtHand past clause i → AtHand past clause j → (i ≡ clause) ⊎ (j ≡ clause) → AreCoveredBy (IsListed s (e ∷ past) m) (ledger s (e ∷ past)) i j
-      step clause is c a b one =
-          covered_more past e legal i j (hand_kept past legal.1 clause i c a) (hand_kept past legal.1 clause j c b)
-          (covered_now past e.by legal.1 (subst (IsAsked s past e.by) is legal.0.asked) clause i j c a b one)
+      before : Before past e m < nodes past
+      before = stem_there s past legal.1 e.by e.event m legal.0.asked there
 
-      by_cases : (worked past m i ≡ true → worked past m j ≡ true → AreCoveredBy (IsListed s past m) (ledger s past) i j) → IsNow past e.event i ⊎ (worked past m i ≡ true) → IsNow past e.event j ⊎ (worked past m j ≡ true) → AreCoveredBy (IsListed s (e ∷ past) m) (ledger s (e ∷ past)) i j
-      by_cases earlier (inl a) (inl b) = step i a.is a.chosen_there (inl refl) (inl (same_clause past i j a.chosen_there b.chosen_there)) (inl refl)
-      by_cases earlier (inl a) (inr b) = step i a.is a.chosen_there (inl refl) (inr b) (inl refl)
-      by_cases earlier (inr a) (inl b) = step j b.is b.chosen_there (inr a) (inl refl) (inr refl)
-      by_cases earlier (inr a) (inr b) = covered_more past e legal i j (worked_kept past legal.1 i a) (worked_kept past legal.1 j b) (earlier a b)
+      old_at : (k : ℕ) → e.event ≡ Activate m → worked past (Before past e m) k ≡ true → worked past m k ≡ true
+      old_at k is h = subst (λ n. worked past n k ≡ true) (stays past e.event m is) h
 
-  pub closed : (past : List Entry) → IsLegalJournal s past → pick_at s past m ≡ None → IsClosed s past m
-  closed past legal none = record {
+      by_cases : (worked past (Before past e m) i ≡ true → worked past (Before past e m) j ≡ true → AreCovered past (Before past e m) i j)
+          → IsNow past e.event m i ⊎ (worked past (Before past e m) i ≡ true) → IsNow past e.event m j ⊎ (worked past (Before past e m) j ≡ true) → AreCovered (e ∷ past) m i j
+      by_cases earlier (inl a) (inl b) = covered_by_now past e legal m i i j a.is a.chosen_there (inl refl) (inl (same_clause past m i j a.chosen_there b.chosen_there)) (inl refl)
+      by_cases earlier (inl a) (inr b) = covered_by_now past e legal m i i j a.is a.chosen_there (inl refl) (inr (old_at j a.is b)) (inl refl)
+      by_cases earlier (inr a) (inl b) = covered_by_now past e legal m j i j b.is b.chosen_there (inr (old_at i b.is a)) (inl refl) (inr refl)
+      by_cases earlier (inr a) (inr b) = covered_more past e legal m i j (worked_kept past legal.1 (Before past e m) i before a) (worked_kept past legal.1 (Before past e m) j before b) (earlier a b)
+
+  pub closed : (past : List Entry) → IsLegalJournal s past → (m : ℕ) → m < nodes past → pick_at s past m ≡ None → IsClosed s past m
+  closed past legal m there none = record {
     done = done s past m legal none;
-    covered = λ first second p q. covered past legal first second p.worked q.worked;
+    covered = λ first second p q. covered past legal m first second there p.worked q.worked;
   }

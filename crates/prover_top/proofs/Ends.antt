@@ -192,13 +192,14 @@ nodes_later : (past later : List Entry) → nodes past ≤ nodes (later ++ past)
 nodes_later past [] = omega arith
 nodes_later past (e ∷ later) = let h = nodes_later past later in omega (arith, h)
 
-complete : (t : State) (node : ℕ) → t.setting.limits.splits ≡ 0 → Ended t.setting t.past (ends.Completed node) → IsComplete node (kept_count t.setting t.past node) 0 t
-complete t node unsplit f =
+complete : (t : State) (node : ℕ) → Ended t.setting t.past (ends.Completed node) → IsComplete node (kept_count t.setting t.past node) 0 t
+complete t node f =
     let is : f.event ≡ Saturated node = ending_of f.event (ends.Completed node) f.why in
     let e = ends_by t (ends.Completed node) f (Saturated node) is in
+    let there = claimed_within t.setting f.before f.before_legal f.by node e.legal.asked.holds.claims in
     record {
       ends = e;
-      closed = closed t.setting unsplit node f.before f.before_legal e.legal.asked.none;
+      closed = closed t.setting f.before f.before_legal node there e.legal.asked.none;
       kept_there =
           ap (λ p. kept_count t.setting p node) e.first.is
           ∙ kept_count_later t.setting (record { by = f.by; event = Saturated node } ∷ f.before) node f.later f.stops
@@ -262,15 +263,15 @@ module _ (t : State) (legal : IsLegalJournal t.setting t.past) where
   pub proved_by : reason t.setting t.past ≡ Some ends.Proved → IsContradicted t
   proved_by e = contradicted (has_empty t.setting.input) refl e
 
-  caused_for : t.setting.limits.splits ≡ 0 → (r : Option End) → reason t.setting t.past ≡ r → IsCaused t (answer_for t r)
-  caused_for unsplit None e = tt
-  caused_for unsplit (Some ends.Proved) e = proved_by e
-  caused_for unsplit (Some (ends.Completed node)) e = complete t node unsplit (ended_by (ends.Completed node) e (λ d. absurd (cc)))
-  caused_for unsplit (Some ends.Rounds) e = spent (ended_by ends.Rounds e (λ d. absurd (cc)))
-  caused_for unsplit (Some ends.Steps) e = full (ended_by ends.Steps e (λ d. absurd (cc)))
-  caused_for unsplit (Some (ends.Size symbols)) e = large symbols (ended_by (ends.Size symbols) e (λ d. absurd (cc)))
-  caused_for unsplit (Some ends.Memory) e = tt
+  caused_for : (r : Option End) → reason t.setting t.past ≡ r → IsCaused t (answer_for t r)
+  caused_for None e = tt
+  caused_for (Some ends.Proved) e = proved_by e
+  caused_for (Some (ends.Completed node)) e = complete t node (ended_by (ends.Completed node) e (λ d. absurd (cc)))
+  caused_for (Some ends.Rounds) e = spent (ended_by ends.Rounds e (λ d. absurd (cc)))
+  caused_for (Some ends.Steps) e = full (ended_by ends.Steps e (λ d. absurd (cc)))
+  caused_for (Some (ends.Size symbols)) e = large symbols (ended_by (ends.Size symbols) e (λ d. absurd (cc)))
+  caused_for (Some ends.Memory) e = tt
 
   -- what the table's answer says of it
-  pub caused : t.setting.limits.splits ≡ 0 → IsCaused t (answer_of t)
-  caused unsplit = caused_for unsplit (reason t.setting t.past) refl
+  pub caused : IsCaused t (answer_of t)
+  caused = caused_for (reason t.setting t.past) refl

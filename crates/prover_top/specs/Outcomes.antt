@@ -55,11 +55,10 @@ pub record IsRefused (before after : Option (List ℕ)) (fault : ReadFault) : Ty
 
 -- ---- what proving gave
 
--- one worker proved these clauses within these limits, by which no clause is split, until a legal journal ended
+-- one worker proved these clauses within these limits until a legal journal ended
 pub record IsTableOf (limits : Limits) (input : List Clause) (t : State) : Type 0 where
   pub input_is : t.setting.input ≡ input
   pub limits_are : t.setting.limits ≡ limits
-  pub unsplit : limits.splits ≡ 0
   pub one_worker : t.setting.workers ≡ 1
   pub legal : IsLegalJournal t.setting t.past
   pub ended : IsSome (reason t.setting t.past)

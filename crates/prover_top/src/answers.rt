@@ -10,7 +10,7 @@ pub enum Answer {
     ProofFound,
     /// Nothing is left to choose at a leaf: the case is complete.
     Completion {
-        /// The leaf, from 0; there is only the root yet.
+        /// The leaf, from 0, the root.
         node: u32,
         /// How many clauses are kept there.
         kept: u32,

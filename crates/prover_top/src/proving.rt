@@ -150,7 +150,6 @@ fn decide(alloc: Global, table: Table) -> Decided
 
 fn work(alloc: Global, mut table: Table) -> Decided
     requires begun { table.past ≡ [] }
-    requires unsplit { table.setting.limits.splits ≡ 0 }
     requires worker { table.setting.workers ≡ 1 }
     ensures decided { IsDecided table.setting.limits table.setting.input result.table result.proof result.answer }
     ensures short { length result.proof < 2 ^ 32 }
@@ -159,10 +158,9 @@ fn work(alloc: Global, mut table: Table) -> Decided
     decide(alloc, table)
 }
 
-/// Proves the clauses within the limits, with one worker that splits none, and says what came of it.
+/// Proves the clauses within the limits, with one worker, and says what came of it.
 pub fn prove(alloc: Global, input: &[Clause], limits: Limits) -> Decided
     requires few { length input.now ≤ 65536 }
-    requires unsplit { limits.splits ≡ 0 }
     ensures decided { IsDecided limits input.now result.table result.proof result.answer }
     ensures short { length result.proof < 2 ^ 32 }
 {

@@ -57,7 +57,6 @@ fn refused(alloc: Global, answer: Answer) -> Answered
 /// What comes of the clauses of a problem.
 fn decide(alloc: Global, problem: &Problem, limits: Limits) -> Decided
     requires entries { HasLimits problem.now.entries }
-    requires unsplit { limits.splits ≡ 0 }
     ensures decided { IsDecided limits (clauses problem.now.entries) result.table result.proof result.answer }
     ensures short { length result.proof < 2 ^ 32 }
 {
@@ -69,7 +68,6 @@ fn decide(alloc: Global, problem: &Problem, limits: Limits) -> Decided
 
 fn solve(alloc: Global, problem: Problem, limits: Limits) -> Answered
     requires entries { HasLimits problem.entries }
-    requires unsplit { limits.splits ≡ 0 }
     ensures decided { IsDecided limits (clauses problem.entries) result.decided.table result.decided.proof result.decided.answer }
     ensures signature { result.signature ≡ problem.signature }
     ensures short { length result.decided.proof < 2 ^ 32 }
@@ -83,7 +81,6 @@ fn solve(alloc: Global, problem: Problem, limits: Limits) -> Answered
 
 fn read(alloc: Global, bytes: &[u8], limits: Limits) -> Answered
     requires few { length bytes.now ≤ most_bytes }
-    requires unsplit { limits.splits ≡ 0 }
     ensures read { IsRead limits bytes.now result.signature result.decided.table result.decided.proof result.decided.answer }
     ensures short { length result.decided.proof < 2 ^ 32 }
 {
@@ -142,10 +139,10 @@ fn respond<S: Source, K: Sink>(
 /// Does what the words say: reads a problem from the source, proves it, and writes the answer to the sink.
 ///
 /// The words are `prove`, then `--rounds` with 0 to 1,000,000 (10,000 where it isn't given), `--steps` with 1 to
-/// 1,000,000 (100,000) and `--workers` with 1, each at most once. At most 16,777,217 bytes are read; the text of the
-/// answer is built whole before the first write. The order of refusals is words, reading (a fault, then too long),
-/// grammar, proving, writing. Want of memory may come at each stage and is the one answer without a cause; each other
-/// one has its cause in a clause here.
+/// 1,000,000 (100,000), `--splits` with 0 to 10,000 (1,000) and `--workers` with 1, each at most once. At most 16,777,217
+/// bytes are read; the text of the answer is built whole before the first write. The order of refusals is words, reading
+/// (a fault, then too long), grammar, proving, writing. Want of memory may come at each stage and is the one answer
+/// without a cause; each other one has its cause in a clause here.
 pub fn run_alone<S: Source, K: Sink>(
     alloc: Global,
     words: &[String],

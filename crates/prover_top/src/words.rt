@@ -1,7 +1,7 @@
-ghost use Rattle.std.specs.Prelude.{◌≡◌, ◌≤◌, map, length, IfSome, SomeIff};
+ghost use Rattle.std.specs.Prelude.{◌≡◌, ◌≤◌, map, length, SomeIff};
 ghost use Rattle.std.specs.Str.Parse.{IsNumeral, digits_value};
 ghost use Rattle.std.specs.String.{string_bytes};
-ghost use Rattle.prover_top.specs.Words.{number_of, with_rounds, with_steps, with_workers, with_number, with_option, options_of, limits_given, limits_of};
+ghost use Rattle.prover_top.specs.Words.{number_of, with_rounds, with_steps, with_splits, with_workers, with_number, with_option, options_of, limits_given, limits_of};
 
 use split_tree::Limits;
 
@@ -12,6 +12,8 @@ pub struct Given {
     pub rounds: Option<u32>,
     /// The limit of steps.
     pub steps: Option<u32>,
+    /// The limit of splits.
+    pub splits: Option<u32>,
     /// Whether the number of workers was given.
     pub workers: bool,
 }
@@ -44,6 +46,7 @@ fn with_rounds(given: Given, number: u32) -> Option<Given>
         return Some(Given {
             rounds: Some(number),
             steps: given.steps,
+            splits: given.splits,
             workers: given.workers,
         });
     }
@@ -57,6 +60,21 @@ fn with_steps(given: Given, number: u32) -> Option<Given>
         return Some(Given {
             rounds: given.rounds,
             steps: Some(number),
+            splits: given.splits,
+            workers: given.workers,
+        });
+    }
+    None
+}
+
+fn with_splits(given: Given, number: u32) -> Option<Given>
+    ensures { result ≡ with_splits given number }
+{
+    if given.splits.is_none() && number <= 10_000 {
+        return Some(Given {
+            rounds: given.rounds,
+            steps: given.steps,
+            splits: Some(number),
             workers: given.workers,
         });
     }
@@ -70,6 +88,7 @@ fn with_workers(given: Given, number: u32) -> Option<Given>
         return Some(Given {
             rounds: given.rounds,
             steps: given.steps,
+            splits: given.splits,
             workers: true,
         });
     }
@@ -84,6 +103,9 @@ fn with_number(given: Given, option: &str, number: u32) -> Option<Given>
     }
     if option == "--steps" {
         return with_steps(given, number);
+    }
+    if option == "--splits" {
+        return with_splits(given, number);
     }
     if option == "--workers" {
         return with_workers(given, number);
@@ -122,20 +144,20 @@ fn limits_given(given: Given) -> Limits
     Limits {
         rounds: given.rounds.unwrap_or(10_000),
         steps: given.steps.unwrap_or(100_000),
-        splits: 0,
+        splits: given.splits.unwrap_or(1_000),
     }
 }
 
 /// The limits, where the words fit: `prove`, then `--rounds` with 0 to 1,000,000 (10,000 where it isn't given),
-/// `--steps` with 1 to 1,000,000 (100,000) and `--workers` with 1, each at most once, in any order. No clause is split.
-/// `None` exactly where they don't fit.
+/// `--steps` with 1 to 1,000,000 (100,000), `--splits` with 0 to 10,000 (1,000) and `--workers` with 1, each at most once,
+/// in any order. `None` exactly where they don't fit.
 pub fn limits_of(words: &[String]) -> Option<Limits>
-    ensures limits { result ≡ limits_of (map string_bytes words.now) }
-    ensures unsplit { IfSome result (λ limits. limits.splits ≡ 0) }
+    ensures { result ≡ limits_of (map string_bytes words.now) }
 {
     let none = Given {
         rounds: None,
         steps: None,
+        splits: None,
         workers: false,
     };
     match words {
