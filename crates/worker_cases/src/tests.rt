@@ -187,3 +187,46 @@ fn tells_a_conclusion_past_the_limit(rt: HostRuntime) -> Result<(), Fail> {
     }
     Ok(())
 }
+
+/// How many events of the journal split a clause, and how many claim a node.
+fn splits_and_claims(table: &Table) -> (u64, u64) {
+    let mut splits = 0_u64;
+    let mut claims = 0_u64;
+    for at in 0..table.events() {
+        match table.event(at) {
+            (_, Event::Split { .. }) => splits = splits.wrapping_add(1),
+            (_, Event::Claim { .. }) => claims = claims.wrapping_add(1),
+            _ => {}
+        }
+    }
+    (splits, claims)
+}
+
+#[test]
+fn both_cases_are_closed(rt: HostRuntime) -> Result<(), Fail> {
+    let alloc = rt.alloc();
+    let input = clauses(alloc, &[1, 2, 0, -1, 0, -2])?;
+    if input.len() > 10 {
+        return Err(Fail::new("too many clauses"));
+    }
+    let mut table = Table::start(alloc, input.as_slice(), limits(100, 100, 10), 1)?;
+    alone(alloc, &mut table);
+    assert!(rt; table.reason() == Some(End::Proved));
+    assert_eq!(rt; table.nodes(), 3);
+    assert!(rt; splits_and_claims(&table) == (1, 3));
+    Ok(())
+}
+
+#[test]
+fn an_open_case_is_completed(rt: HostRuntime) -> Result<(), Fail> {
+    let alloc = rt.alloc();
+    let input = clauses(alloc, &[1, 2, 0, -1])?;
+    if input.len() > 10 {
+        return Err(Fail::new("too many clauses"));
+    }
+    let mut table = Table::start(alloc, input.as_slice(), limits(100, 100, 10), 1)?;
+    alone(alloc, &mut table);
+    assert!(rt; table.reason() == Some(End::Completed { node: 2 }));
+    assert!(rt; splits_and_claims(&table) == (1, 3));
+    Ok(())
+}
