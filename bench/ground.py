@@ -5,7 +5,7 @@ It belongs to no gate. Build the program first: `rt run` in crates/spass.
 """
 import sys
 
-from problems import chain, groups, random_clauses
+from problems import chain, groups, pigeons, random_clauses
 from timing import built_program, measure, others, peak_megabytes
 
 SECONDS = 60
@@ -32,6 +32,9 @@ def main():
     for links in (100, 300, 1500):
         row(f"chain of {links} links", *chain(links), [str(program), "prove"])
     row("200 clauses with a model", *groups(50), [str(program), "prove"])
+    for count, holes in ((4, 3), (5, 4), (7, 7)):
+        row(f"{count} pigeons in {holes} holes", *pigeons(count, holes), [str(program), "prove"])
+    row("5 pigeons in 4 holes, no splits", *pigeons(5, 4), [str(program), "prove", "--splits", "0"])
     for rounds in ("300", "1000"):
         title = f"500 random clauses of three literals, {rounds} rounds"
         row(title, *random_clauses(500, 100, 1), [str(program), "prove", "--rounds", rounds])

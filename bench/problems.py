@@ -58,3 +58,13 @@ def groups(count):
         clauses += [[(p, True, "c"), (q, True, "c")], [(p, False, "c"), (r, True, "c")]]
         clauses += [[(r, False, "c"), (s, True, "c")], [(s, True, "c")]]
     return problem(["c"], predicates, clauses)
+
+
+def pigeons(count, holes):
+    """Each of so many pigeons sits in one of the holes, and no two in one hole."""
+    place = [[f"p{i}x{j}" for j in range(holes)] for i in range(count)]
+    clauses = [[(name, True, "c") for name in row] for row in place]
+    for hole in range(holes):
+        for a in range(count):
+            clauses += [[(place[a][hole], False, "c"), (place[b][hole], False, "c")] for b in range(a + 1, count)]
+    return problem(["c"], [name for row in place for name in row], clauses)

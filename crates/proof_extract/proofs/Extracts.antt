@@ -1,15 +1,16 @@
 -- The marked lines, renumbered, are conclusions still, and the last is that of the clause.
 use Rattle.std.proofs.Common.{◌≡◌, ℕ, zero, suc, ◌+◌, ◌-◌, ◌<◌, ◌≤◌, Bool, true, false, List, [], ◌∷◌, ◌++◌, length, get_or, map, take, drop, Option, Some, None, option_map, refl, sym, ap, ◌∙◌, subst, arith, rules, append_assoc, append-nil}
 use Rattle.std.specs.Prelude.{IsSomeAnd, IfOk, Result, Ok, Err}
-use Rattle.std.specs.List.{slice_get}
+use Rattle.std.specs.List.{list_all, slice_get}
 use Rattle.std.proofs.lemmas.List.{take-map, length-map}
 use Rattle.std.proofs.lemmas.Option.{slice_get_within, slice_get-map}
 use Rattle.spl_terms.specs.declared.clause.Clause.{Clause}
 use Rattle.spl_truth.specs.Truth.{Refuted}
+use Rattle.spl_truth.proofs.Replacing.{and_parts, and_both}
 use Rattle.proof_steps.specs.declared.step.Statement.{Statement}
 use Rattle.proof_steps.specs.declared.step.Line.{Line}
-use Rattle.proof_steps.specs.Steps.{numbered, concluded}
-use Rattle.proof_steps.specs.Checked.{AreConclusions, IsConclusion, IsContradiction, AreByResolution, Checked, stated}
+use Rattle.proof_steps.specs.Steps.{numbered, concluded, is_covered_rule}
+use Rattle.proof_steps.specs.Checked.{AreConclusions, IsConclusion, IsContradiction, AreByCoveredRules, Checked, stated}
 use Rattle.proof_steps.proofs.Sound.{refuted-checked}
 use Rattle.proof_extract.specs.Extracting.{IsMarked, AreAncestors, marked_count, new_number, renumbered_deps, renumbered_statement, renumbered_line, pick_marked, extracted, IsProofOf}
 use Rattle.proof_extract.specs.Marking.{taken}
@@ -216,10 +217,26 @@ extracted_checked input lines proof clause each is contradictory =
       ends = subst (λ o. IsSomeAnd o (λ l. IsContradiction l.stated)) (sym (is.last h.0 h.1)) (h.2.0, ap (renumbered_deps (new_number is.marks)) h.2.1);
     }
 
--- and the input is refuted, where the rules are those of resolution
-pub proof_refutes : (input : List Clause) (lines proof : List Line) (clause : ℕ) → AreConclusions input lines → IsProofOf lines clause proof → IsContradictory lines clause → AreByResolution proof → Refuted input
+-- the rules of the marked lines are as before
+rules_kept : (marks : List Bool) (lines : List Line) → AreByCoveredRules lines → AreByCoveredRules (extracted marks lines)
+rules_kept marks lines all = kept marks lines all
+  where
+    kept : (bs : List Bool) (ls : List Line) → AreByCoveredRules ls → AreByCoveredRules (map (renumbered_line (new_number marks)) (pick_marked bs ls))
+    kept [] ls e = refl
+    kept (b ∷ bs) [] e = refl
+    kept (true ∷ bs) (l ∷ ls) e =
+        let both = and_parts (is_covered_rule l.step.rule) (list_all (λ m. is_covered_rule m.step.rule) ls) e in
+        and_both (is_covered_rule l.step.rule) (list_all (λ m. is_covered_rule m.step.rule) (map (renumbered_line (new_number marks)) (pick_marked bs ls))) both.0 (kept bs ls both.1)
+    kept (false ∷ bs) (l ∷ ls) e = kept bs ls (and_parts (is_covered_rule l.step.rule) (list_all (λ m. is_covered_rule m.step.rule) ls) e).1
+
+-- so where no line of the ledger is by a rule about equations, none of the proof is
+pub proof_covered : (lines proof : List Line) (clause : ℕ) → IsProofOf lines clause proof → AreByCoveredRules lines → AreByCoveredRules proof
+proof_covered lines proof clause is all = subst AreByCoveredRules (sym is.is) (rules_kept is.marks lines all)
+
+-- and the input is refuted, where no rule is about equations
+pub proof_refutes : (input : List Clause) (lines proof : List Line) (clause : ℕ) → AreConclusions input lines → IsProofOf lines clause proof → IsContradictory lines clause → AreByCoveredRules proof → Refuted input
 proof_refutes input lines proof clause each is contradictory by =
-    refuted-checked input proof (extracted_checked input lines proof clause (proof_each input lines proof clause each is) is contradictory) (search rules)
+    refuted-checked input proof (extracted_checked input lines proof clause (proof_each input lines proof clause each is) is contradictory) by
 
 -- what holds of the value holds of what follows from it
 pub if_ok : {T E : Type 0} (r : Result T E) (P Q : T → Type 0) → ((x : T) → P x → Q x) → IfOk r P → IfOk r Q

@@ -2,7 +2,7 @@
 ghost use Rattle.std.specs.Prelude.{◌≡◌, ◌≤◌, ◌<◌, ◌^◌, ◌++◌, length, IfOk, OnOk};
 ghost use Rattle.spl_truth.specs.Truth.{Refuted};
 ghost use Rattle.proof_steps.specs.Steps.{numbered};
-ghost use Rattle.proof_steps.specs.Checked.{AreByResolution, AreConclusions, Checked};
+ghost use Rattle.proof_steps.specs.Checked.{AreConclusions, Checked};
 ghost use Rattle.split_tree.specs.Journal.{ledger, steps};
 ghost use Rattle.proof_extract.specs.Extracting.{AreSplitsMarked, new_number, extracted, IsProofOf};
 ghost use Rattle.proof_extract.specs.Marking.{counts_from, taken};
@@ -80,10 +80,11 @@ pub fn extract(alloc: Global, table: &Table, clause: u32) -> Result<Items<Line>,
     ensures proof { IfOk result (IsProofOf (ledger table.now.setting table.now.past) clause) }
     ensures conclusions { IfOk result (AreConclusions table.now.setting.input) }
     ensures checked { IfOk result (λ proof. IsContradictory (ledger table.now.setting table.now.past) clause → Checked table.now.setting.input proof) }
-    ensures refuted { IfOk result (λ proof. IsContradictory (ledger table.now.setting table.now.past) clause → AreByResolution proof → Refuted table.now.setting.input) }
+    ensures refuted { IfOk result (λ proof. IsContradictory (ledger table.now.setting table.now.past) clause → Refuted table.now.setting.input) }
     ensures count { IfOk result (λ proof. length proof ≤ clause) }
 {
     table.ledger_is_concluded();
+    table.rules_are_covered();
     let marks = ancestors(alloc, table, clause)?;
     let counts = counts(alloc, marks.as_slice())?;
     marked_lines(alloc, table, marks.as_slice(), counts.as_slice())

@@ -9,7 +9,7 @@ use Rattle.spl_terms.specs.declared.clause.Clause.{Clause}
 use Rattle.spl_truth.specs.Truth.{IsGroundInstance, IsUsable, holds, atom_eq, FollowsAt, Follows}
 use Rattle.spl_truth.proofs.Replacing.{and_parts, and_both}
 use Rattle.proof_steps.specs.Steps.{joined}
-use Rattle.proof_steps.proofs.Sound.{negative, truth-joined}
+use Rattle.proof_steps.proofs.Resolution.{negative, truth-joined}
 
 -- a usable list under which x is true, wherever the assignment is one of those of which ok speaks
 abbrev pub Backed : List Clause → (List Atom → Type 0) → Clause → Type 0
@@ -44,6 +44,19 @@ cut clauses more follows d f =
     back : (x : Clause) → IsUsable more x → Backed clauses (λ _. Unit {0}) x
     back x (inl (c, there, inst)) = let g = follows c there x inst in (g.listed, g.usable, λ a o e. g.forces a e)
     back x (inr axiom') = alone clauses (λ _. Unit {0}) x (inr axiom')
+
+-- a clause follows from clauses among which it is
+pub itself : (clauses : List Clause) (c : Clause) → Contains clauses c → Follows clauses c
+itself clauses c there d inst =
+    record {
+      listed = d ∷ [];
+      usable = All-cons (IsUsable clauses) d [] (inl (c, there, inst)) (All-nil (IsUsable clauses));
+      forces = λ a e. (and_parts _ _ e).0;
+    }
+
+-- what follows from clauses follows from more
+pub follows_more : (clauses more : List Clause) → ((c : Clause) → Contains clauses c → Contains more c) → (d : Clause) → Follows clauses d → Follows more d
+follows_more clauses more kept d follows e inst = cut more clauses (λ c there. itself more c (kept c there)) e (follows e inst)
 
 left_true : (n s m t : Bool) → ((n || m) || (s || t)) ≡ true → (m || t) ≡ false → (n || s) ≡ true
 left_true true s m t e f = refl

@@ -13,8 +13,8 @@ use Rattle.spl_truth.proofs.Replacing.{replace-Var, replace-App, ground-Var, gro
 use Rattle.proof_steps.specs.declared.step.Statement.{Statement}
 use Rattle.proof_steps.specs.declared.step.Rule.{Rule}
 use Rattle.proof_steps.specs.declared.step.Rule.TheVariants.{Input, Resolve, Factor, Paramodulate, Reflex, EqFactor, Assume, CaseLeft, CaseRight, CaseBoth}
-use Rattle.spl_terms.specs.Clauses.{atoms_of}
-use Rattle.proof_steps.specs.Parts.{share_variable, spread, component, has_succedent, first_head, parted_by, parts_of}
+use Rattle.spl_terms.specs.Clauses.{atom_variables}
+use Rattle.proof_steps.specs.Parts.{share, variable_lists, spread, component, has_succedent, first_head, if_rest, parted_by, parts_of}
 use Rattle.proof_steps.specs.Steps.{states, side_of, assumed, conclude}
 
 -- ---- the words of the examples
@@ -101,15 +101,15 @@ abbrev either : Statement
 either = plain [] [] (holds 4 a ∷ holds 5 b ∷ [])
 
 -- atoms without variables share none
-apart_either : share_variable (holds 5 b) (holds 4 a) ≡ false
+apart_either : share (atom_variables (holds 5 b)) (atom_variables (holds 4 a)) ≡ false
 apart_either = simp folds
 
-spread_either : spread (atoms_of either.clause) (true ∷ false ∷ []) ≡ true ∷ false ∷ []
+spread_either : spread (variable_lists either.clause) (true ∷ false ∷ []) ≡ true ∷ false ∷ []
 spread_either = λ i. true ∷ (apart_either i || false) ∷ []
 
 parts_either : parts_of either.clause ≡ Some (record { left = clause [] [] (holds 4 a ∷ []); right = clause [] [] (holds 5 b ∷ []); left_ground = true })
 parts_either =
-    ap (λ marks. option_and_then (parted_by either.clause) (if has_succedent either.clause marks then Some marks else first_head 1 1 either.clause)) (ap (spread (atoms_of either.clause)) spread_either ∙ spread_either)
+    ap (λ marks. option_map (parted_by either.clause) (option_and_then (if_rest either.clause) (if has_succedent either.clause marks then Some marks else first_head 1 1 either.clause))) (ap (spread (variable_lists either.clause)) spread_either ∙ spread_either)
     ∙ simp folds
 
 pub example_asm_left : gives (either ∷ []) (Assume 1 None) (1 ∷ []) ≡ Some (states (clause [] [] (holds 4 a ∷ [])) (side_of 1 1 ∷ []))
@@ -126,27 +126,27 @@ example_asm_negated = ap (λ parts. option_map (λ d. states d (side_of 1 2 ∷ 
 abbrev linked : Statement
 linked = plain [] [] (holds 4 (Var 0) ∷ holds 5 (Var 0) ∷ holds 8 b ∷ [])
 
-together : share_variable (holds 5 (Var 0)) (holds 4 (Var 0)) ≡ true
+together : share (atom_variables (holds 5 (Var 0))) (atom_variables (holds 4 (Var 0))) ≡ true
 together = simp folds
 
-apart_first : share_variable (holds 8 b) (holds 4 (Var 0)) ≡ false
+apart_first : share (atom_variables (holds 8 b)) (atom_variables (holds 4 (Var 0))) ≡ false
 apart_first = simp folds
 
-apart_second : share_variable (holds 8 b) (holds 5 (Var 0)) ≡ false
+apart_second : share (atom_variables (holds 8 b)) (atom_variables (holds 5 (Var 0))) ≡ false
 apart_second = simp folds
 
-spread_first : spread (atoms_of linked.clause) (true ∷ false ∷ false ∷ []) ≡ true ∷ true ∷ false ∷ []
+spread_first : spread (variable_lists linked.clause) (true ∷ false ∷ false ∷ []) ≡ true ∷ true ∷ false ∷ []
 spread_first = λ i. true ∷ (together i || false) ∷ (apart_first i || false) ∷ []
 
-spread_second : spread (atoms_of linked.clause) (true ∷ true ∷ false ∷ []) ≡ true ∷ true ∷ false ∷ []
+spread_second : spread (variable_lists linked.clause) (true ∷ true ∷ false ∷ []) ≡ true ∷ true ∷ false ∷ []
 spread_second = λ i. true ∷ true ∷ (apart_first i || (apart_second i || false)) ∷ []
 
-component_linked : component 0 (atoms_of linked.clause) ≡ true ∷ true ∷ false ∷ []
-component_linked = ap (λ marks. spread (atoms_of linked.clause) (spread (atoms_of linked.clause) marks)) spread_first ∙ ap (spread (atoms_of linked.clause)) spread_second ∙ spread_second
+component_linked : component 0 (variable_lists linked.clause) ≡ true ∷ true ∷ false ∷ []
+component_linked = ap (λ marks. spread (variable_lists linked.clause) (spread (variable_lists linked.clause) marks)) spread_first ∙ ap (spread (variable_lists linked.clause)) spread_second ∙ spread_second
 
 parts_linked : parts_of linked.clause ≡ Some (record { left = clause [] [] (holds 4 (Var 0) ∷ holds 5 (Var 0) ∷ []); right = clause [] [] (holds 8 b ∷ []); left_ground = false })
 parts_linked =
-    ap (λ marks. option_and_then (parted_by linked.clause) (if has_succedent linked.clause marks then Some marks else first_head 2 1 linked.clause)) component_linked
+    ap (λ marks. option_map (parted_by linked.clause) (option_and_then (if_rest linked.clause) (if has_succedent linked.clause marks then Some marks else first_head 2 1 linked.clause))) component_linked
     ∙ simp folds
 
 pub example_asm_component : gives (linked ∷ []) (Assume 1 None) (1 ∷ []) ≡ Some (states (clause [] [] (holds 4 (Var 0) ∷ holds 5 (Var 0) ∷ [])) (side_of 1 1 ∷ []))

@@ -1,4 +1,15 @@
 pub mod Steps
-pub mod Sound
+pub mod Marks
+pub mod CaseLemmas
+pub mod Options
+pub mod Resolution
 pub mod Cut
+pub mod Closure
+pub mod Joint
+pub mod PartTruths
+pub mod BothParts
+pub mod Negations
+pub mod Premises
+pub mod Closing
+pub mod Sound
 pub mod Examples

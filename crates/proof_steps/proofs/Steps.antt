@@ -1,5 +1,5 @@
 -- Facts that the code of the rules needs.
-use Rattle.std.proofs.Common.{get_or, ◌≡◌, ℕ, zero, suc, ◌+◌, ◌<◌, ◌≤◌, Bool, true, false, ◌&&◌, ◌==◌, if◌then◌else◌, List, [], ◌∷◌, ◌++◌, length, map, fold, take, Option, Some, None, option_map, is_some, refl, sym, ap, subst, ◌∙◌, arith, length-append, add-one}
+use Rattle.std.proofs.Common.{get_or, ◌≡◌, ℕ, zero, suc, ◌+◌, ◌<◌, ◌≤◌, Bool, true, false, ◌&&◌, ◌||◌, ◌==◌, if◌then◌else◌, List, [], ◌∷◌, ◌++◌, length, map, fold, take, Option, Some, None, option_map, is_some, refl, sym, ap, subst, ◌∙◌, arith, length-append, add-one}
 use Rattle.std.specs.List.{slice_get, list_any, list_all, flat_map}
 use Rattle.std.specs.Prelude.{Ok, Err, nat_le}
 use Rattle.std.proofs.lemmas.Bool.{false_from_ne_true, eqb-true, leb-true, le-leb, lt-leb}
@@ -14,16 +14,16 @@ use Rattle.spl_terms.specs.Clauses.{part_of, clause_symbols, atoms_of, atom_vari
 use Rattle.spl_terms.proofs.TermLemmas.{Each, term_induction}
 use Rattle.spl_terms.proofs.NumberLemmas.{term_variables-Var, term_variables-App}
 use Rattle.spl_truth.specs.Truth.{entry, apply, is_ground_atom, is_ground}
-use Rattle.spl_truth.proofs.Replacing.{and_parts, replace-Var, replace-App, ground-Var, ground-App}
+use Rattle.spl_truth.proofs.Replacing.{and_parts, and_both, replace-Var, replace-App, ground-Var, ground-App}
 use Rattle.proof_steps.specs.declared.step.Statement.{Statement}
 use Rattle.proof_steps.specs.declared.step.Rule.{Rule}
 use Rattle.proof_steps.specs.declared.step.Rule.TheVariants.{Input, Resolve, Factor, Paramodulate, Reflex, EqFactor, Assume, CaseLeft, CaseRight, CaseBoth}
 use Rattle.proof_steps.specs.declared.step.Line.{Line}
 use Rattle.dep_sets.specs.declared.deps.Assumption.{Assumption}
 use Rattle.dep_sets.specs.Assumptions.{united}
-use Rattle.proof_steps.specs.Steps.{when, numbered, fits, both_same, may_resolve, resolvent, resolved, resolution, states, from_two, is_negative, concluded, is_resolution_rule, within, Sized}
-use Rattle.proof_steps.specs.Parents.{parent_at, by_resolution}
-use Rattle.proof_steps.specs.Checked.{stated}
+use Rattle.proof_steps.specs.Steps.{when, numbered, fits, both_same, may_resolve, resolvent, resolved, resolution, states, from_two, is_negative, concluded, is_resolution_rule, is_split_rule, is_covered_rule, within, Sized}
+use Rattle.proof_steps.specs.Parents.{parent_at, from_parents}
+use Rattle.proof_steps.specs.Checked.{stated, AreByResolution, AreByCoveredRules}
 
 -- ---- looking lines up
 
@@ -83,7 +83,7 @@ same_atoms (a ∷ as') = let h = same_atom a in let k = same_atoms as' in λ i. 
 pub apply-nil : (c : Clause) → apply [] c ≡ c
 apply-nil c = let x = same_atoms c.constraint in let y = same_atoms c.antecedent in let z = same_atoms c.succedent in λ i. record { constraint = x i; antecedent = y i; succedent = z i }
 
-abbrev no_numbers : List ℕ → Bool
+abbrev pub no_numbers : List ℕ → Bool
 no_numbers [] = true
 no_numbers (v ∷ vs) = false
 
@@ -108,7 +108,7 @@ ground_terms : (ts : List Term) → list_all is_ground_term ts ≡ no_numbers (f
 ground_terms [] = refl
 ground_terms (t ∷ ts) = and_same (ground_term t) (ground_terms ts) ∙ sym (no_numbers-append (term_variables t) (flat_map term_variables ts))
 
-ground_atom : (a : Atom) → is_ground_atom a ≡ no_numbers (atom_variables a)
+pub ground_atom : (a : Atom) → is_ground_atom a ≡ no_numbers (atom_variables a)
 ground_atom (Holds p ts) = ground_terms ts
 ground_atom (Equal s t) = ground_terms (s ∷ t ∷ [])
 
@@ -207,37 +207,59 @@ sized_big (Some s) n h = sym (ap (λ b. when b s) (lt-leb (clause_symbols s.clau
 
 -- ---- parents looked up
 
-pub by_resolution-exact : (input : List Clause) (earlier : List Statement) (rule : Rule) (parents : List ℕ) → is_resolution_rule rule ≡ true → by_resolution input rule parents (parent_at earlier parents 0) (parent_at earlier parents 1) ≡ concluded input earlier rule parents
-by_resolution-exact input earlier (Input n) [] e = refl
-by_resolution-exact input earlier (Input n) (m ∷ ms) e = refl
-by_resolution-exact input earlier (Resolve i part j s t) [] e = refl
-by_resolution-exact input earlier (Resolve i part j s t) (m ∷ []) e = refl
-by_resolution-exact input earlier (Resolve i part j s t) (m ∷ n ∷ []) e = refl
-by_resolution-exact input earlier (Resolve i part j s t) (m ∷ n ∷ o ∷ ms) e = refl
-by_resolution-exact input earlier (Factor s) [] e = refl
-by_resolution-exact input earlier (Factor s) (m ∷ []) e = refl
-by_resolution-exact input earlier (Factor s) (m ∷ n ∷ ms) e = refl
-by_resolution-exact input earlier (Paramodulate i right spot s t) ms e = absurd (cc)
-by_resolution-exact input earlier (Reflex j s) ms e = absurd (cc)
-by_resolution-exact input earlier (EqFactor i i_right j j_right s) ms e = absurd (cc)
-by_resolution-exact input earlier (Assume side negated) ms e = absurd (cc)
-by_resolution-exact input earlier CaseLeft ms e = absurd (cc)
-by_resolution-exact input earlier CaseRight ms e = absurd (cc)
-by_resolution-exact input earlier CaseBoth ms e = absurd (cc)
+pub from_parents-exact : (input : List Clause) (earlier : List Statement) (rule : Rule) (parents : List ℕ) → is_covered_rule rule ≡ true → from_parents input rule parents (parent_at earlier parents 0) (parent_at earlier parents 1) (parent_at earlier parents 2) ≡ concluded input earlier rule parents
+from_parents-exact input earlier (Input n) [] e = refl
+from_parents-exact input earlier (Input n) (m ∷ ms) e = refl
+from_parents-exact input earlier (Resolve i part j s t) [] e = refl
+from_parents-exact input earlier (Resolve i part j s t) (m ∷ []) e = refl
+from_parents-exact input earlier (Resolve i part j s t) (m ∷ n ∷ []) e = refl
+from_parents-exact input earlier (Resolve i part j s t) (m ∷ n ∷ o ∷ ms) e = refl
+from_parents-exact input earlier (Factor s) [] e = refl
+from_parents-exact input earlier (Factor s) (m ∷ []) e = refl
+from_parents-exact input earlier (Factor s) (m ∷ n ∷ ms) e = refl
+from_parents-exact input earlier (Assume side negated) [] e = refl
+from_parents-exact input earlier (Assume side negated) (m ∷ []) e = refl
+from_parents-exact input earlier (Assume side negated) (m ∷ n ∷ ms) e = refl
+from_parents-exact input earlier CaseLeft [] e = refl
+from_parents-exact input earlier CaseLeft (m ∷ []) e = refl
+from_parents-exact input earlier CaseLeft (m ∷ n ∷ []) e = refl
+from_parents-exact input earlier CaseLeft (m ∷ n ∷ o ∷ ms) e = refl
+from_parents-exact input earlier CaseRight [] e = refl
+from_parents-exact input earlier CaseRight (m ∷ []) e = refl
+from_parents-exact input earlier CaseRight (m ∷ n ∷ []) e = refl
+from_parents-exact input earlier CaseRight (m ∷ n ∷ o ∷ ms) e = refl
+from_parents-exact input earlier CaseBoth [] e = refl
+from_parents-exact input earlier CaseBoth (m ∷ []) e = refl
+from_parents-exact input earlier CaseBoth (m ∷ n ∷ []) e = refl
+from_parents-exact input earlier CaseBoth (m ∷ n ∷ o ∷ []) e = refl
+from_parents-exact input earlier CaseBoth (m ∷ n ∷ o ∷ o' ∷ ms) e = refl
+from_parents-exact input earlier (Paramodulate i right spot s t) ms e = absurd (cc)
+from_parents-exact input earlier (Reflex j s) ms e = absurd (cc)
+from_parents-exact input earlier (EqFactor i i_right j j_right s) ms e = absurd (cc)
 
-pub by_resolution-others : (input : List Clause) (rule : Rule) (parents : List ℕ) (p q : Option Statement) → is_resolution_rule rule ≡ false → by_resolution input rule parents p q ≡ None
-by_resolution-others input (Input n) ms p q e = absurd (cc)
-by_resolution-others input (Resolve i part j s t) ms p q e = absurd (cc)
-by_resolution-others input (Factor s) ms p q e = absurd (cc)
-by_resolution-others input (Paramodulate i right spot s t) ms p q e = refl
-by_resolution-others input (Reflex j s) ms p q e = refl
-by_resolution-others input (EqFactor i i_right j j_right s) ms p q e = refl
-by_resolution-others input (Assume side negated) ms p q e = refl
-by_resolution-others input CaseLeft ms p q e = refl
-by_resolution-others input CaseRight ms p q e = refl
-by_resolution-others input CaseBoth ms p q e = refl
+pub from_parents-others : (input : List Clause) (rule : Rule) (parents : List ℕ) (p q r : Option Statement) → is_covered_rule rule ≡ false → from_parents input rule parents p q r ≡ None
+from_parents-others input (Input n) ms p q r e = absurd (cc)
+from_parents-others input (Resolve i part j s t) ms p q r e = absurd (cc)
+from_parents-others input (Factor s) ms p q r e = absurd (cc)
+from_parents-others input (Assume side negated) ms p q r e = absurd (cc)
+from_parents-others input CaseLeft ms p q r e = absurd (cc)
+from_parents-others input CaseRight ms p q r e = absurd (cc)
+from_parents-others input CaseBoth ms p q r e = absurd (cc)
+from_parents-others input (Paramodulate i right spot s t) ms p q r e = refl
+from_parents-others input (Reflex j s) ms p q r e = refl
+from_parents-others input (EqFactor i i_right j j_right s) ms p q r e = refl
 
-pub ruleset parent_rules = (by_resolution-exact, by_resolution-others)
+pub ruleset parent_rules = (from_parents-exact, from_parents-others)
+
+pub resolution_covered : (rule : Rule) → is_resolution_rule rule ≡ true → is_covered_rule rule ≡ true
+resolution_covered rule e = ap (λ b. b || is_split_rule rule) e
+
+-- lines by rules of resolution are not by rules about equations
+pub resolutions_covered : (ls : List Line) → AreByResolution ls → AreByCoveredRules ls
+resolutions_covered [] e = refl
+resolutions_covered (l ∷ ls) e =
+    let both = and_parts (is_resolution_rule l.step.rule) (list_all (λ m. is_resolution_rule m.step.rule) ls) e in
+    and_both (is_covered_rule l.step.rule) (list_all (λ m. is_covered_rule m.step.rule) ls) (resolution_covered l.step.rule both.0) (resolutions_covered ls both.1)
 
 -- ---- conclusions that are compared
 
@@ -278,9 +300,9 @@ get_is [] k d h e = absurd (omega arith)
 get_is (m ∷ ls) zero d h e = ap Some (sym e)
 get_is (m ∷ ls) (suc k) d h e = get_is ls k d (omega arith) e
 
-pub rules_all : (ls : List Line) → ((k : ℕ) (l : Line) → slice_get ls k ≡ Some l → is_resolution_rule l.step.rule ≡ true) → list_all (λ l. is_resolution_rule l.step.rule) ls ≡ true
+pub rules_all : (ls : List Line) → ((k : ℕ) (l : Line) → slice_get ls k ≡ Some l → is_covered_rule l.step.rule ≡ true) → list_all (λ l. is_covered_rule l.step.rule) ls ≡ true
 rules_all [] each = refl
-rules_all (m ∷ ls) each = ap (λ b. b && list_all (λ l. is_resolution_rule l.step.rule) ls) (each 0 m refl) ∙ rules_all ls (λ k l e. each (suc k) l e)
+rules_all (m ∷ ls) each = ap (λ b. b && list_all (λ l. is_covered_rule l.step.rule) ls) (each 0 m refl) ∙ rules_all ls (λ k l e. each (suc k) l e)
 
 -- ---- sets compared place by place
 

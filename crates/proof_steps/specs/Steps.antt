@@ -2,7 +2,7 @@
 -- Resolution, factoring, paramodulation (superposition), equality resolution and equality factoring are those of
 -- Weidenbach 2001, section on superposition, here for given substitutions; the case rules are its splitting rule,
 -- as steps of one proof.
-use Rattle.std.specs.Prelude.{◌≡◌, ℕ, zero, suc, ◌<◌, ◌≤◌, min, ⊤, Bool, true, false, ◌&&◌, ◌==◌, if◌then◌else◌, List, [], ◌∷◌, ◌++◌, length, Option, Some, None, IfSome, IsSomeAnd, Result, Ok, Err, option_map, option_and_then, slice_get, remove, nat_le}
+use Rattle.std.specs.Prelude.{◌≡◌, ℕ, zero, suc, ◌<◌, ◌≤◌, min, ⊤, Bool, true, false, ◌&&◌, ◌||◌, ◌==◌, if◌then◌else◌, List, [], ◌∷◌, ◌++◌, length, Option, Some, None, IfSome, IsSomeAnd, Result, Ok, Err, option_map, option_and_then, slice_get, remove, nat_le}
 use Rattle.spl_terms.specs.declared.term.Term.{Term}
 use Rattle.spl_terms.specs.declared.atom.Atom.{Atom}
 use Rattle.spl_terms.specs.declared.atom.Atom.TheVariants.{Holds, Equal}
@@ -207,6 +207,18 @@ is_resolution_rule _ = false
 -- the step that resolves atom i of the line m with atom j of the line n, both without variables
 abbrev pub ground_resolve : ℕ → Part → ℕ → ℕ → ℕ → Step
 ground_resolve i part j m n = record { rule = Resolve i part j (record { terms = [] }) (record { terms = [] }); parents = m ∷ n ∷ [] }
+
+-- assumption and the case rules
+abbrev pub is_split_rule : Rule → Bool
+is_split_rule (Assume side negated) = true
+is_split_rule CaseLeft = true
+is_split_rule CaseRight = true
+is_split_rule CaseBoth = true
+is_split_rule _ = false
+
+-- all rules but those about equations
+abbrev pub is_covered_rule : Rule → Bool
+is_covered_rule rule = is_resolution_rule rule || is_split_rule rule
 
 -- ---- answers
 

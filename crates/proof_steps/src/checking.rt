@@ -1,6 +1,6 @@
 ghost use Rattle.std.specs.Prelude.{◌≡◌, ◌↔◌, IsTrue, IfOk};
 ghost use Rattle.spl_truth.specs.Truth.{Refuted};
-ghost use Rattle.proof_steps.specs.Checked.{stated, AreByResolution, IsResolved, AreConclusions, IsContradiction, EndsEmpty, AllStand, Checked};
+ghost use Rattle.proof_steps.specs.Checked.{stated, AreByCoveredRules, IsCovered, AreConclusions, IsContradiction, EndsEmpty, AllStand, Checked};
 
 use crate::concluding::conclude_from_lines;
 use crate::step::{Line, Statement};
@@ -34,14 +34,14 @@ fn same_statement(a: &Statement, b: &Statement) -> bool
     same_clause(&a.clause, &b.clause) && same_deps(&a.deps, &b.deps)
 }
 
-/// Whether the line states what its step concludes from the earlier ones, by a rule of resolution.
+/// Whether the line states what its step concludes from the earlier ones, by a rule that is not about equations.
 fn is_conclusion(
     alloc: Global,
     input: &[Clause],
     earlier: &[Line],
     line: &Line,
 ) -> Result<bool, AllocError>
-    ensures { IfOk result (λ yes. IsTrue yes ↔ IsResolved input.now (stated earlier.now) line.now) }
+    ensures { IfOk result (λ yes. IsTrue yes ↔ IsCovered input.now (stated earlier.now) line.now) }
 {
     match conclude_from_lines(alloc, &line.step, input, earlier)? {
         Some(made) => Ok(same_statement(&made, &line.stated)),
@@ -64,18 +64,18 @@ fn ends_empty(lines: &[Line]) -> bool
     }
 }
 
-/// Whether the lines are a proof by rules of resolution: each states what its step concludes from the lines before
-/// it, in at most 4,096 symbols, and the last states the empty clause without dependencies. If so, finitely many
-/// ground instances of the input clauses and of the axioms of equality are true under no assignment.
+/// Whether the lines are a proof: each states what its step concludes from the lines before it, in at most 4,096
+/// symbols, and the last states the empty clause without dependencies. If so, finitely many ground instances of the
+/// input clauses and of the axioms of equality are true under no assignment.
 ///
 /// Clauses are compared atom by atom, in order and with the sides of equations as they stand. A list with a step by
-/// another rule is answered false for now.
+/// a rule about equations is answered false for now.
 ///
 /// # Errors
 ///
 /// Only where there is no memory.
 pub fn check(alloc: Global, input: &[Clause], lines: &[Line]) -> Result<bool, AllocError>
-    ensures exact { IfOk result (λ yes. IsTrue yes ↔ (Checked input.now lines.now × AreByResolution lines.now)) }
+    ensures exact { IfOk result (λ yes. IsTrue yes ↔ (Checked input.now lines.now × AreByCoveredRules lines.now)) }
     ensures sound { IfOk result (λ yes. IsTrue yes → Refuted input.now) }
 {
     for (k, line) in lines.iter().enumerate() {
@@ -86,18 +86,18 @@ pub fn check(alloc: Global, input: &[Clause], lines: &[Line]) -> Result<bool, Al
     Ok(ends_empty(lines))
 }
 
-/// The law of soundness: what lines state that are conclusions by rules of resolution follows from the input clauses,
-/// and depends on nothing. It does nothing when it runs.
+/// The law of soundness: what each line states that is a conclusion from the lines before it, where no rule is about
+/// equations, follows from the input clauses and from what its dependencies assume. It does nothing when it runs.
 pub fn follow(input: &[Clause], lines: &[Line])
     requires conclusions { AreConclusions input.now lines.now }
-    requires by_resolution { AreByResolution lines.now }
+    requires covered { AreByCoveredRules lines.now }
     ensures { AllStand input.now lines.now }
 {}
 
-/// The law that a proof by rules of resolution refutes its input: finitely many ground instances of the input clauses
-/// and of the axioms of equality are true under no assignment. It does nothing when it runs.
+/// The law that a proof without rules about equations refutes its input: finitely many ground instances of the input
+/// clauses and of the axioms of equality are true under no assignment. It does nothing when it runs.
 pub fn refutes(input: &[Clause], lines: &[Line])
     requires checked { Checked input.now lines.now }
-    requires by_resolution { AreByResolution lines.now }
+    requires covered { AreByCoveredRules lines.now }
     ensures { Refuted input.now }
 {}

@@ -191,7 +191,12 @@ fn applies(i: u32, part: Part, j: u32, p: &Statement, q: &Statement) -> bool
     may_resolve(i, part, j, &p.clause, &q.clause) && is_ground(&p.clause) && is_ground(&q.clause)
 }
 
-fn resolve_ground(
+/// What Resolve concludes from two statements with empty substitutions, as `resolve_lines` does from two lines.
+///
+/// # Errors
+///
+/// As those of `resolve_lines`.
+pub fn resolve_statements(
     alloc: Global,
     i: u32,
     part: Part,
@@ -245,7 +250,7 @@ pub fn resolve_lines(
         numbered_statement(earlier, m),
         numbered_statement(earlier, n),
     ) {
-        (Some(p), Some(q)) => resolve_ground(alloc, i, part, j, p, q),
+        (Some(p), Some(q)) => resolve_statements(alloc, i, part, j, p, q),
         _ => Ok(None),
     }
 }

@@ -1,5 +1,6 @@
 use super::*;
-use dep_sets::Deps;
+use Argument::{Constant, Var};
+use dep_sets::{Assumption, Deps};
 use spl_terms::{Atom, Clause, Items, Kind, Part, Symbol, Term, same_clause};
 use spl_truth::Subst;
 use std::alloc::{AllocError, Global};
@@ -209,5 +210,418 @@ fn ground_lines_are_resolved(rt: HostRuntime) -> Result<(), Fail> {
     assert!(rt; !lines_resolve(alloc, true)?);
     assert!(rt; atoms_of_lines_resolve(alloc, 1, 2)?);
     assert!(rt; !atoms_of_lines_resolve(alloc, 2, 1)?);
+    Ok(())
+}
+
+// ---- splits
+
+const P: u32 = 1;
+
+const Q: u32 = 2;
+
+const R: u32 = 3;
+
+const S: u32 = 4;
+
+#[derive(Clone, Copy)]
+enum Argument {
+    Var(u32),
+    Constant(u32),
+}
+
+/// The atoms of the three parts, each a predicate with its arguments; S is a sort.
+#[derive(Clone, Copy)]
+struct Written<'a> {
+    constraint: &'a [(u32, &'a [Argument])],
+    antecedent: &'a [(u32, &'a [Argument])],
+    succedent: &'a [(u32, &'a [Argument])],
+}
+
+/// A clause without constraint and antecedent.
+fn facts<'a>(succedent: &'a [(u32, &'a [Argument])]) -> Written<'a> {
+    Written {
+        constraint: &[],
+        antecedent: &[],
+        succedent,
+    }
+}
+
+fn term_of(alloc: Global, argument: Argument) -> Term {
+    match argument {
+        Argument::Var(number) => Term::Var(number),
+        Argument::Constant(number) => Term::App(
+            Symbol {
+                number,
+                kind: Kind::Function,
+            },
+            Items::new(alloc),
+        ),
+    }
+}
+
+fn atom_of(alloc: Global, predicate: u32, arguments: &[Argument]) -> Result<Atom, AllocError> {
+    let mut terms = Items::new(alloc);
+    for argument in arguments {
+        terms.push(term_of(alloc, *argument))?;
+    }
+    let kind = if predicate == S {
+        Kind::Sort
+    } else {
+        Kind::Predicate
+    };
+    Ok(Atom::Holds(
+        Symbol {
+            number: predicate,
+            kind,
+        },
+        terms,
+    ))
+}
+
+fn atoms_of(alloc: Global, written: &[(u32, &[Argument])]) -> Result<Items<Atom>, AllocError> {
+    let mut atoms = Items::new(alloc);
+    for (predicate, arguments) in written {
+        atoms.push(atom_of(alloc, *predicate, *arguments)?)?;
+    }
+    Ok(atoms)
+}
+
+fn clause_of(alloc: Global, written: Written<'_>) -> Result<Clause, AllocError> {
+    Ok(Clause {
+        constraint: atoms_of(alloc, written.constraint)?,
+        antecedent: atoms_of(alloc, written.antecedent)?,
+        succedent: atoms_of(alloc, written.succedent)?,
+    })
+}
+
+/// Whether the clause has just these parts.
+fn has_parts(
+    alloc: Global,
+    written: Written<'_>,
+    left: Written<'_>,
+    right: Written<'_>,
+    left_ground: bool,
+) -> Result<bool, AllocError> {
+    match split_of(alloc, &clause_of(alloc, written)?)? {
+        Some(parts) => Ok(
+            same_clause(&parts.left, &clause_of(alloc, left)?)
+                && same_clause(&parts.right, &clause_of(alloc, right)?)
+                && parts.left_ground == left_ground,
+        ),
+        None => Ok(false),
+    }
+}
+
+fn has_none(alloc: Global, written: Written<'_>) -> Result<bool, AllocError> {
+    Ok(split_of(alloc, &clause_of(alloc, written)?)?.is_none())
+}
+
+/// A clause without constraint.
+fn rule<'a>(
+    antecedent: &'a [(u32, &'a [Argument])],
+    succedent: &'a [(u32, &'a [Argument])],
+) -> Written<'a> {
+    Written {
+        constraint: &[],
+        antecedent,
+        succedent,
+    }
+}
+
+/// A clause without antecedent.
+fn sorted<'a>(
+    constraint: &'a [(u32, &'a [Argument])],
+    succedent: &'a [(u32, &'a [Argument])],
+) -> Written<'a> {
+    Written {
+        constraint,
+        antecedent: &[],
+        succedent,
+    }
+}
+
+#[test]
+fn clauses_are_split(rt: HostRuntime) -> Result<(), Fail> {
+    let alloc = rt.alloc();
+    let (x, y) = ([Var(0)], [Var(1)]);
+    assert!(rt;
+        has_parts(
+            alloc,
+            facts(&[(P, &x), (Q, &y)]),
+            facts(&[(P, &x)]),
+            facts(&[(Q, &x)]),
+            false
+        )?
+    );
+    assert!(rt; has_none(alloc, facts(&[(P, &x), (Q, &x)]))?);
+    Ok(())
+}
+
+#[test]
+fn ground_clauses_are_split(rt: HostRuntime) -> Result<(), Fail> {
+    let alloc = rt.alloc();
+    let (a, b) = ([Constant(0)], [Constant(1)]);
+    assert!(rt;
+        has_parts(
+            alloc,
+            facts(&[(P, &a), (Q, &b)]),
+            facts(&[(P, &a)]),
+            facts(&[(Q, &b)]),
+            true
+        )?
+    );
+    assert!(rt; has_none(alloc, rule(&[(R, &a)], &[(P, &b)]))?);
+    Ok(())
+}
+
+#[test]
+fn chains_of_atoms_stay_together(rt: HostRuntime) -> Result<(), Fail> {
+    let alloc = rt.alloc();
+    let (x, y, both) = ([Var(0)], [Var(1)], [Var(0), Var(1)]);
+    assert!(rt;
+        has_parts(
+            alloc,
+            Written {
+                constraint: &[(S, &x)],
+                antecedent: &[(R, &y)],
+                succedent: &[(P, &x), (Q, &y)],
+            },
+            sorted(&[(S, &x)], &[(P, &x)]),
+            rule(&[(R, &x)], &[(Q, &x)]),
+            false
+        )?
+    );
+    assert!(rt; has_none(alloc, rule(&[(R, &both)], &[(P, &x), (Q, &y)]))?);
+    Ok(())
+}
+
+#[test]
+fn a_later_component_comes_first(rt: HostRuntime) -> Result<(), Fail> {
+    let alloc = rt.alloc();
+    let (x, y) = ([Var(0)], [Var(1)]);
+    assert!(rt;
+        has_parts(
+            alloc,
+            rule(
+                &[(R, &x)],
+                &[(P, &[Var(1)]), (Q, &[Var(2)]), (R, &[Var(1)])]
+            ),
+            facts(&[(P, &x), (R, &x)]),
+            rule(&[(R, &x)], &[(Q, &y)]),
+            false
+        )?
+    );
+    Ok(())
+}
+
+fn depending(
+    alloc: Global,
+    written: Written<'_>,
+    deps: &[(u32, u32)],
+) -> Result<Statement, AllocError> {
+    let mut stated = statement(alloc, clause_of(alloc, written)?);
+    for (split, side) in deps {
+        let one = Deps::one(
+            alloc,
+            Assumption {
+                split: *split,
+                side: *side,
+            },
+        )?;
+        stated.deps = stated.deps.union(&one)?;
+    }
+    Ok(stated)
+}
+
+/// P(a) or Q(b), which depends on side 1 of clause 7; both of its sides closed, the first one depending on side 2 of
+/// clause 8 too; S(a) or Q(b); and P(x) or Q(y).
+fn split_statements(alloc: Global) -> Result<Vec<Statement>, AllocError> {
+    let (a, b) = ([Constant(0)], [Constant(1)]);
+    let mut earlier = Vec::with_capacity(alloc, 5)?;
+    earlier.push(depending(alloc, facts(&[(P, &a), (Q, &b)]), &[(7, 1)])?)?;
+    earlier.push(depending(alloc, facts(&[]), &[(1, 1), (8, 2)])?)?;
+    earlier.push(depending(alloc, facts(&[]), &[(1, 2)])?)?;
+    earlier.push(depending(alloc, facts(&[(S, &a), (Q, &b)]), &[])?)?;
+    earlier.push(depending(alloc, facts(&[(P, &[Var(0)]), (Q, &[Var(1)])]), &[])?)?;
+    Ok(earlier)
+}
+
+fn assume(side: u32, negated: Option<u32>) -> Rule {
+    Rule::Assume { side, negated }
+}
+
+fn concluded(alloc: Global, rule: Rule, parents: &[u32]) -> Result<Option<Statement>, AllocError> {
+    let step = Step {
+        rule,
+        parents: Items::from_slice(alloc, parents)?,
+    };
+    let earlier = split_statements(alloc)?;
+    conclude(alloc, &step, &[], earlier.as_slice())
+}
+
+/// Whether the rule with these parents concludes just this.
+fn concludes(
+    alloc: Global,
+    rule: Rule,
+    parents: &[u32],
+    written: Written<'_>,
+    deps: &[(u32, u32)],
+) -> Result<bool, AllocError> {
+    let wanted = depending(alloc, written, deps)?;
+    match concluded(alloc, rule, parents)? {
+        Some(made) => Ok(
+            same_clause(&made.clause, &wanted.clause)
+                && made.deps.as_slice() == wanted.deps.as_slice(),
+        ),
+        None => Ok(false),
+    }
+}
+
+fn is_refused(alloc: Global, rule: Rule, parents: &[u32]) -> Result<bool, AllocError> {
+    Ok(concluded(alloc, rule, parents)?.is_none())
+}
+
+#[test]
+fn sides_are_assumed(rt: HostRuntime) -> Result<(), Fail> {
+    let alloc = rt.alloc();
+    let (a, b) = ([Constant(0)], [Constant(1)]);
+    assert!(rt; concludes(alloc, assume(1, None), &[1], facts(&[(P, &a)]), &[(1, 1)])?);
+    assert!(rt; concludes(alloc, assume(2, None), &[1], facts(&[(Q, &b)]), &[(1, 2)])?);
+    assert!(rt;
+        concludes(
+            alloc,
+            assume(2, Some(0)),
+            &[1],
+            rule(&[(P, &a)], &[]),
+            &[(1, 2)]
+        )?
+    );
+    assert!(rt;
+        concludes(
+            alloc,
+            assume(2, Some(0)),
+            &[4],
+            sorted(&[(S, &a)], &[]),
+            &[(4, 2)]
+        )?
+    );
+    for (side, negated, parent) in [
+        (3, None, 1),
+        (1, Some(0), 1),
+        (2, Some(1), 1),
+        (2, Some(0), 5),
+        (1, None, 2),
+    ] {
+        assert!(rt; is_refused(alloc, assume(side, negated), &[parent])?);
+    }
+    Ok(())
+}
+
+#[test]
+fn closed_sides_are_joined(rt: HostRuntime) -> Result<(), Fail> {
+    let alloc = rt.alloc();
+    let (a, b) = ([Constant(0)], [Constant(1)]);
+    assert!(rt;
+        concludes(
+            alloc,
+            Rule::CaseLeft,
+            &[1, 2],
+            facts(&[(Q, &b)]),
+            &[(7, 1), (8, 2)]
+        )?
+    );
+    assert!(rt;
+        concludes(
+            alloc,
+            Rule::CaseRight,
+            &[1, 3],
+            facts(&[(P, &a)]),
+            &[(7, 1)]
+        )?
+    );
+    assert!(rt;
+        concludes(
+            alloc,
+            Rule::CaseBoth,
+            &[1, 2, 3],
+            facts(&[]),
+            &[(7, 1), (8, 2)]
+        )?
+    );
+    assert!(rt; is_refused(alloc, Rule::CaseLeft, &[1, 3])?);
+    assert!(rt; is_refused(alloc, Rule::CaseRight, &[1, 2])?);
+    assert!(rt; is_refused(alloc, Rule::CaseBoth, &[1, 3, 2])?);
+    assert!(rt; is_refused(alloc, Rule::CaseBoth, &[1, 2])?);
+    Ok(())
+}
+
+// ---- proofs by cases
+
+/// P(a) or Q(a), and neither.
+fn neither(alloc: Global) -> Result<Vec<Clause>, AllocError> {
+    let a = [Constant(0)];
+    let mut input = Vec::with_capacity(alloc, 3)?;
+    input.push(clause_of(alloc, facts(&[(P, &a), (Q, &a)]))?)?;
+    input.push(clause_of(alloc, rule(&[(P, &a)], &[]))?)?;
+    input.push(clause_of(alloc, rule(&[(Q, &a)], &[]))?)?;
+    Ok(input)
+}
+
+/// Adds the line of this step, with what it concludes, if anything.
+fn add(
+    alloc: Global,
+    input: &[Clause],
+    lines: &mut Vec<Line>,
+    rule: Rule,
+    parents: &[u32],
+) -> Result<(), AllocError> {
+    let step = Step {
+        rule,
+        parents: Items::from_slice(alloc, parents)?,
+    };
+    if let Some(stated) = conclude_from_lines(alloc, &step, input, lines.as_slice())? {
+        lines.push(Line { step, stated })?;
+    }
+    Ok(())
+}
+
+fn resolve_first(alloc: Global) -> Rule {
+    Rule::Resolve {
+        i: 0,
+        part: Part::Antecedent,
+        j: 0,
+        s: no_terms(alloc),
+        t: no_terms(alloc),
+    }
+}
+
+/// Both sides of the first clause's split, closed.
+fn closed_sides(alloc: Global, input: &[Clause]) -> Result<Vec<Line>, AllocError> {
+    let mut lines = Vec::with_capacity(alloc, 8)?;
+    for no in 1..4 {
+        add(alloc, input, &mut lines, Rule::Input { no }, &[])?;
+    }
+    add(alloc, input, &mut lines, assume(1, None), &[1])?;
+    add(alloc, input, &mut lines, resolve_first(alloc), &[4, 2])?;
+    add(alloc, input, &mut lines, assume(2, None), &[1])?;
+    add(alloc, input, &mut lines, resolve_first(alloc), &[6, 3])?;
+    Ok(lines)
+}
+
+#[test]
+fn a_proof_by_cases_is_checked(rt: HostRuntime) -> Result<(), Fail> {
+    let alloc = rt.alloc();
+    let input = neither(alloc)?;
+    let mut lines = closed_sides(alloc, input.as_slice())?;
+    assert!(rt; lines.len() == 7);
+    assert!(rt; !check(alloc, input.as_slice(), lines.as_slice())?);
+    add(
+        alloc,
+        input.as_slice(),
+        &mut lines,
+        Rule::CaseBoth,
+        &[1, 5, 7],
+    )?;
+    assert!(rt; check(alloc, input.as_slice(), lines.as_slice())?);
     Ok(())
 }

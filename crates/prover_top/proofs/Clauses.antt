@@ -1,53 +1,51 @@
 -- What an outcome says of each answer.
-use Rattle.std.proofs.Common.{◌≡◌, ◌≢◌, ◌⊎◌, inl, inr, ℕ, ◌<◌, ◌≤◌, Bool, List, ◌++◌, length, Option, Some, None, refl, sym, ap, subst, ◌∙◌, arith, length-append}
+use Rattle.std.proofs.Common.{◌≡◌, ◌⊎◌, inl, inr, ℕ, ◌<◌, ◌≤◌, Bool, List, ◌++◌, length, Option, Some, None, refl, sym, ap, subst, ◌∙◌, arith, length-append}
 use Rattle.std.specs.Prelude.{IfSome, IsSomeAnd, Result, Ok, Err}
 use Rattle.std.proofs.lemmas.List.{append-nil}
 use Rattle.outside_io.specs.Outside.{Rose, CameWhole, CamePast}
 use Rattle.spl_symbols.specs.Symbols.{Declared}
 use Rattle.proof_steps.specs.declared.step.Line.{Line}
-use Rattle.ground_loop.specs.declared.saturating.Run.{Run}
-use Rattle.ground_loop.specs.Runs.{ArePicked}
-use Rattle.ground_loop.specs.Ends.{HasNoEmpty, IsSpent, IsTooLarge}
+use Rattle.split_tree.specs.declared.event.Limits.{Limits}
+use Rattle.split_tree.specs.State.{State}
 use Rattle.dfg_reader.specs.declared.fault.ReadFault.{ReadFault as Fault}
 use Rattle.dfg_reader.specs.declared.problem.Problem.{Problem}
 use Rattle.dfg_reader.specs.Problems.{problem}
 use Rattle.prover_top.specs.declared.answers.Answer.{Answer}
-use Rattle.prover_top.specs.declared.answers.Answer.TheVariants.{ProofFound, Completion, Rounds, Size, Words, Input, TooLong, ReadFault, Memory}
-use Rattle.prover_top.specs.Words.{rounds_of}
-use Rattle.prover_top.specs.Outcomes.{Call, most_bytes, IsInput, IsRefused, IsReason, IsComplete, IsTried, IsCause}
-use Rattle.prover_top.specs.Reports.{IsOutcome, HasLines, HasProof, IsOfProving, IsUnlessMemory, IsTold}
+use Rattle.prover_top.specs.declared.answers.Answer.TheVariants.{ProofFound, Completion, Rounds, Steps, Size, Words, Input, TooLong, ReadFault, Memory}
+use Rattle.prover_top.specs.Words.{limits_of}
+use Rattle.prover_top.specs.Endings.{IsContradicted, IsComplete, IsSpent, IsFull, IsLarge}
+use Rattle.prover_top.specs.Outcomes.{Call, most_bytes, IsInput, IsRefused, answer_for, answer_of, IsTried, IsCause}
+use Rattle.prover_top.specs.Reports.{IsOutcome, HasTable, HasProof, IsOfProving, IsUnlessMemory, IsTold}
+use Rattle.prover_top.proofs.Ends.{IsCaused, caused, proved_of}
 use Rattle.prover_top.proofs.Causes.{memory}
 
 -- the cause of what is reported
-pub record IsReported (call : Call) (run : Option Run) (reported : Answer) : Type 0 where
+pub record IsReported (call : Call) (table : Option State) (reported : Answer) : Type 0 where
   pub signature : List Declared
   pub proof : List Line
-  pub cause : IsCause call signature run proof reported
+  pub cause : IsCause call signature table proof reported
 
-no_fit : (o : Option ℕ) (n : ℕ) → o ≡ Some n → o ≡ None → ⊥
+no_fit : (o : Option Limits) (n : Limits) → o ≡ Some n → o ≡ None → ⊥
 no_fit o n e f = let h : Some n ≡ None = sym e ∙ f in absurd (cc)
 
-no_run : (r : Run) → Some r ≡ None → ⊥
-no_run r e = absurd (cc)
-
-module _ (call : Call) (run : Option Run) (reported : Answer) (failed : Bool) (old new : Option (List ℕ)) (o : IsOutcome call run reported failed old new) where
-  by_same : (reported ≡ o.answer) ⊎ (reported ≡ Memory) → IsReported call run reported
-  by_same (inl e) = record { signature = o.signature; proof = o.proof; cause = subst (IsCause call o.signature run o.proof) (sym e) o.cause }
-  by_same (inr e) = record { signature = o.signature; proof = o.proof; cause = subst (IsCause call o.signature run o.proof) (sym e) (memory call o.signature o.proof run o.answer o.cause) }
+module _ (call : Call) (table : Option State) (reported : Answer) (failed : Bool) (old new : Option (List ℕ)) (o : IsOutcome call table reported failed old new) where
+  by_same : (reported ≡ o.answer) ⊎ (reported ≡ Memory) → IsReported call table reported
+  by_same (inl e) = record { signature = o.signature; proof = o.proof; cause = subst (IsCause call o.signature table o.proof) (sym e) o.cause }
+  by_same (inr e) = record { signature = o.signature; proof = o.proof; cause = subst (IsCause call o.signature table o.proof) (sym e) (memory call o.signature o.proof table o.answer o.cause) }
 
   either : (reported ≡ Memory) ⊎ (reported ≡ Memory) → (reported ≡ o.answer) ⊎ (reported ≡ Memory)
   either (inl e) = inr e
   either (inr e) = inr e
 
-  pub reported_cause : IsReported call run reported
+  pub reported_cause : IsReported call table reported
   reported_cause = elim o.delivered [ inl d ↦ by_same d.same | inr d ↦ by_same (either d.same) ]
 
-  cause_at : (answer : Answer) → reported ≡ answer → IsCause call reported_cause.signature run reported_cause.proof answer
-  cause_at answer e = subst (IsCause call reported_cause.signature run reported_cause.proof) e reported_cause.cause
+  cause_at : (answer : Answer) → reported ≡ answer → IsCause call reported_cause.signature table reported_cause.proof answer
+  cause_at answer e = subst (IsCause call reported_cause.signature table reported_cause.proof) e reported_cause.cause
 
   -- ---- refusals
 
-  pub words_only : reported ≡ Words → rounds_of call.words ≡ None
+  pub words_only : reported ≡ Words → limits_of call.words ≡ None
   words_only e = (cause_at Words e).0
 
   pub fault_only : reported ≡ ReadFault → Rose call.faults_before call.faults_after
@@ -59,104 +57,103 @@ module _ (call : Call) (run : Option Run) (reported : Answer) (failed : Bool) (o
   pub input_only : (fault : Fault) → reported ≡ Input fault → IsRefused call.before call.after fault
   input_only fault e = (cause_at (Input fault) e).1
 
-words_cases : (call : Call) (signature : List Declared) (run : Option Run) (proof : List Line) (answer : Answer) → IsCause call signature run proof answer → rounds_of call.words ≡ None → IsUnlessMemory Words answer
-words_cases call signature run proof ProofFound h e = absurd (no_fit _ _ h.fits e)
-words_cases call signature run proof (Completion node kept put_off) h e = absurd (no_fit _ _ h.fits e)
-words_cases call signature run proof (Rounds count) h e = absurd (no_fit _ _ h.fits e)
-words_cases call signature run proof (Size symbols) h e = absurd (no_fit _ _ h.fits e)
-words_cases call signature run proof Words h e = inl refl
-words_cases call signature run proof (Input fault) h e = absurd (no_fit _ _ h.0.fits e)
-words_cases call signature run proof TooLong h e = absurd (no_fit _ _ h.0.fits e)
-words_cases call signature run proof ReadFault h e = absurd (no_fit _ _ h.0.fits e)
-words_cases call signature run proof Memory h e = inr refl
+words_cases : (call : Call) (signature : List Declared) (table : Option State) (proof : List Line) (answer : Answer) → IsCause call signature table proof answer → limits_of call.words ≡ None → IsUnlessMemory Words answer
+words_cases call signature table proof ProofFound h e = absurd (no_fit _ _ h.fits e)
+words_cases call signature table proof (Completion node kept put_off) h e = absurd (no_fit _ _ h.fits e)
+words_cases call signature table proof (Rounds count) h e = absurd (no_fit _ _ h.fits e)
+words_cases call signature table proof (Steps limit) h e = absurd (no_fit _ _ h.fits e)
+words_cases call signature table proof (Size symbols) h e = absurd (no_fit _ _ h.fits e)
+words_cases call signature table proof Words h e = inl refl
+words_cases call signature table proof (Input fault) h e = absurd (no_fit _ _ h.0.fits e)
+words_cases call signature table proof TooLong h e = absurd (no_fit _ _ h.0.fits e)
+words_cases call signature table proof ReadFault h e = absurd (no_fit _ _ h.0.fits e)
+words_cases call signature table proof Memory h e = inr refl
 
-pub words_always : (call : Call) (run : Option Run) (reported : Answer) (failed : Bool) (old new : Option (List ℕ)) → IsOutcome call run reported failed old new → rounds_of call.words ≡ None → IsUnlessMemory Words reported
-words_always call run reported failed old new o = let r = reported_cause call run reported failed old new o in words_cases call r.signature run r.proof reported r.cause
+pub words_always : (call : Call) (table : Option State) (reported : Answer) (failed : Bool) (old new : Option (List ℕ)) → IsOutcome call table reported failed old new → limits_of call.words ≡ None → IsUnlessMemory Words reported
+words_always call table reported failed old new o = let r = reported_cause call table reported failed old new o in words_cases call r.signature table r.proof reported r.cause
 
--- ---- runs
+-- ---- tables
 
-tried_of : (call : Call) (signature : List Declared) (r : Run) (proof : List Line) (answer : Answer) → IsCause call signature (Some r) proof answer → IsTried call signature (Some r) proof answer
-tried_of call signature r proof ProofFound h = h
-tried_of call signature r proof (Completion node kept put_off) h = h
-tried_of call signature r proof (Rounds count) h = h
-tried_of call signature r proof (Size symbols) h = h
-tried_of call signature r proof Words h = absurd (no_run r h.1)
-tried_of call signature r proof (Input fault) h = absurd (no_run r h.2)
-tried_of call signature r proof TooLong h = absurd (no_run r h.2)
-tried_of call signature r proof ReadFault h = absurd (no_run r h.2)
-tried_of call signature r proof Memory (inl e) = absurd (no_run r e)
-tried_of call signature r proof Memory (inr h) = h
+no_table : (t : State) → Some t ≡ None → ⊥
+no_table t e = absurd (cc)
 
-lines_of : (call : Call) (signature : List Declared) (r : Run) (proof : List Line) (answer : Answer) → IsTried call signature (Some r) proof answer → HasLines call.before call.after r.lines r.given
-lines_of call signature r proof answer h = record {
+tried_of : (call : Call) (signature : List Declared) (t : State) (proof : List Line) (answer : Answer) → IsCause call signature (Some t) proof answer → IsTried call signature (Some t) proof answer
+tried_of call signature t proof ProofFound h = h
+tried_of call signature t proof (Completion node kept put_off) h = h
+tried_of call signature t proof (Rounds count) h = h
+tried_of call signature t proof (Steps limit) h = h
+tried_of call signature t proof (Size symbols) h = h
+tried_of call signature t proof Words h = absurd (no_table t h.1)
+tried_of call signature t proof (Input fault) h = absurd (no_table t h.2)
+tried_of call signature t proof TooLong h = absurd (no_table t h.2)
+tried_of call signature t proof ReadFault h = absurd (no_table t h.2)
+tried_of call signature t proof Memory (inl e) = absurd (no_table t e)
+tried_of call signature t proof Memory (inr h) = h
+
+table_of : (call : Call) (signature : List Declared) (t : State) (proof : List Line) (answer : Answer) → IsTried call signature (Some t) proof answer → HasTable call.words call.before call.after t
+table_of call signature t proof answer h = record {
+  limits_are = h.fits ∙ ap Some (sym h.decided.0.limits_are);
   signature = signature;
-  input = h.input;
-  input_is = h.input_is;
-  begins = h.decided.0.begins;
-  resolves = h.decided.0.resolves;
-  concludes = h.decided.0.concludes;
-  fresh = h.decided.0.fresh;
+  input_is = subst (IsInput call.before call.after signature) (sym h.decided.0.input_is) h.input_is;
+  one_worker = h.decided.0.one_worker;
+  legal = h.decided.0.legal;
+  ended = h.decided.0.ended;
 }
 
-no_empty : (rounds : ℕ) (input : _) (lines : List Line) (given : List ℕ) (proof : List Line) (answer : Answer) → IsReason rounds input lines given proof answer → answer ≢ ProofFound → answer ≢ Memory → HasNoEmpty lines
-no_empty rounds input lines given proof ProofFound h p m = absurd (p refl)
-no_empty rounds input lines given proof (Completion node kept put_off) h p m = h.0
-no_empty rounds input lines given proof (Rounds count) h p m = h.0
-no_empty rounds input lines given proof (Size symbols) h p m = h.0
-no_empty rounds input lines given proof Words h p m = absurd h
-no_empty rounds input lines given proof (Input fault) h p m = absurd h
-no_empty rounds input lines given proof TooLong h p m = absurd h
-no_empty rounds input lines given proof ReadFault h p m = absurd h
-no_empty rounds input lines given proof Memory h p m = absurd (m refl)
-
 module _ (call : Call) (reported : Answer) (failed : Bool) (old new : Option (List ℕ)) where
-  tried_at : (r : Run) → IsOutcome call (Some r) reported failed old new → (s : List Declared) × (p : List Line) × IsTried call s (Some r) p reported
-  tried_at r o = let c = reported_cause call (Some r) reported failed old new o in (c.signature, c.proof, tried_of call c.signature r c.proof reported c.cause)
+  tried_at : (t : State) → IsOutcome call (Some t) reported failed old new → (s : List Declared) × (p : List Line) × IsTried call s (Some t) p reported
+  tried_at t o = let c = reported_cause call (Some t) reported failed old new o in (c.signature, c.proof, tried_of call c.signature t c.proof reported c.cause)
 
-  pub run_lines : (run : Option Run) → IsOutcome call run reported failed old new → IfSome run (λ r. HasLines call.before call.after r.lines r.given)
-  run_lines None o = tt
-  run_lines (Some r) o = let h = tried_at r o in lines_of call h.0 r h.1 reported h.2
+  pub has_table : (table : Option State) → IsOutcome call table reported failed old new → IfSome table (λ t. HasTable call.words call.before call.after t)
+  has_table None o = tt
+  has_table (Some t) o = let h = tried_at t o in table_of call h.0 t h.1 reported h.2
 
-  pub run_given : (run : Option Run) → IsOutcome call run reported failed old new → IfSome run (λ r. ArePicked r.lines r.given)
-  run_given None o = tt
-  run_given (Some r) o = (tried_at r o).2.decided.0.picks
+  pub has_answer : (table : Option State) → IsOutcome call table reported failed old new → IfSome table (λ t. IsUnlessMemory (answer_of t) reported)
+  has_answer None o = tt
+  has_answer (Some t) o = (tried_at t o).2.decided.1.is
 
-  pub run_unproved : (run : Option Run) → IsOutcome call run reported failed old new → IfSome run (λ r. reported ≢ ProofFound → reported ≢ Memory → HasNoEmpty r.lines)
-  run_unproved None o = tt
-  run_unproved (Some r) o = let h = tried_at r o in no_empty h.2.rounds h.2.input r.lines r.given h.1 reported h.2.decided.1
+  pub proof_always : (table : Option State) → IsOutcome call table reported failed old new → IfSome table (λ t. IsContradicted t → IsUnlessMemory ProofFound reported)
+  proof_always None o = tt
+  proof_always (Some t) o = λ c. subst (λ r. IsUnlessMemory (answer_for t r) reported) (proved_of t c) (has_answer (Some t) o)
 
   none_of : (answer : Answer) → reported ≡ answer → (answer ≡ Memory → ⊥) → IsOutcome call None reported failed old new → ((s : List Declared) (p : List Line) → IsCause call s None p answer → answer ≡ Memory) → ⊥
   none_of answer e not_memory o only =
       let c = reported_cause call None reported failed old new o in
       not_memory (only c.signature c.proof (subst (IsCause call c.signature None c.proof) e c.cause))
 
-  pub proof_only : (run : Option Run) → IsOutcome call run reported failed old new → reported ≡ ProofFound → IsSomeAnd run (λ r. HasProof call.before call.after r.lines)
+  -- an answer but want of memory is that of the table
+  is_answer : (t : State) → IsOutcome call (Some t) reported failed old new → (answer : Answer) → reported ≡ answer → (answer ≡ Memory → ⊥) → answer ≡ answer_of t
+  is_answer t o answer e not_memory = elim (tried_at t o).2.decided.1.is [
+    | inl is ↦ sym e ∙ is
+    | inr is ↦ absurd (not_memory (sym e ∙ is))
+  ]
+
+  cause_of : (t : State) → IsOutcome call (Some t) reported failed old new → (answer : Answer) → reported ≡ answer → (answer ≡ Memory → ⊥) → IsCaused t answer
+  cause_of t o answer e not_memory =
+      let of = (tried_at t o).2.decided.0 in
+      subst (IsCaused t) (sym (is_answer t o answer e not_memory)) (caused t of.legal)
+
+  pub proof_only : (table : Option State) → IsOutcome call table reported failed old new → reported ≡ ProofFound → IsSomeAnd table HasProof
   proof_only None o e = none_of ProofFound e (λ f. absurd (cc)) o (λ s p h. h.decided)
-  proof_only (Some r) o e =
-      let h = tried_at r o in
-      let reason : IsReason h.2.rounds h.2.input r.lines r.given h.1 ProofFound = subst (IsReason h.2.rounds h.2.input r.lines r.given h.1) e h.2.decided.1 in
-      record { signature = h.0; input = h.2.input; input_is = h.2.input_is; proof = h.1; proved = reason }
+  proof_only (Some t) o e =
+      let h = tried_at t o in
+      record { cause = cause_of t o ProofFound e (λ f. absurd (cc)); proof = h.1; proved = h.2.decided.1.proved e }
 
-  pub completion_only : (run : Option Run) → IsOutcome call run reported failed old new → (node kept put_off : ℕ) → reported ≡ Completion node kept put_off → IsSomeAnd run (λ r. IsComplete node kept put_off r.lines r.given)
+  pub completion_only : (table : Option State) → IsOutcome call table reported failed old new → (node kept put_off : ℕ) → reported ≡ Completion node kept put_off → IsSomeAnd table (IsComplete node kept put_off)
   completion_only None o node kept put_off e = none_of (Completion node kept put_off) e (λ f. absurd (cc)) o (λ s p h. h.decided)
-  completion_only (Some r) o node kept put_off e =
-      let h = tried_at r o in
-      let reason : IsReason h.2.rounds h.2.input r.lines r.given h.1 (Completion node kept put_off) = subst (IsReason h.2.rounds h.2.input r.lines r.given h.1) e h.2.decided.1 in
-      reason.1
+  completion_only (Some t) o node kept put_off e = cause_of t o (Completion node kept put_off) e (λ f. absurd (cc))
 
-  pub rounds_only : (run : Option Run) → IsOutcome call run reported failed old new → (count : ℕ) → reported ≡ Rounds count → IsSomeAnd run (λ r. (rounds_of call.words ≡ Some count) × IsSpent count r.lines r.given)
+  pub rounds_only : (table : Option State) → IsOutcome call table reported failed old new → (count : ℕ) → reported ≡ Rounds count → IsSomeAnd table (IsSpent count)
   rounds_only None o count e = none_of (Rounds count) e (λ f. absurd (cc)) o (λ s p h. h.decided)
-  rounds_only (Some r) o count e =
-      let h = tried_at r o in
-      let reason : IsReason h.2.rounds h.2.input r.lines r.given h.1 (Rounds count) = subst (IsReason h.2.rounds h.2.input r.lines r.given h.1) e h.2.decided.1 in
-      (h.2.fits ∙ ap Some (sym reason.1), subst (λ n. IsSpent n r.lines r.given) (sym reason.1) reason.2)
+  rounds_only (Some t) o count e = cause_of t o (Rounds count) e (λ f. absurd (cc))
 
-  pub size_only : (run : Option Run) → IsOutcome call run reported failed old new → (symbols : ℕ) → reported ≡ Size symbols → IsSomeAnd run (λ r. IsTooLarge r.lines r.given symbols)
+  pub steps_only : (table : Option State) → IsOutcome call table reported failed old new → (limit : ℕ) → reported ≡ Steps limit → IsSomeAnd table (IsFull limit)
+  steps_only None o limit e = none_of (Steps limit) e (λ f. absurd (cc)) o (λ s p h. h.decided)
+  steps_only (Some t) o limit e = cause_of t o (Steps limit) e (λ f. absurd (cc))
+
+  pub size_only : (table : Option State) → IsOutcome call table reported failed old new → (symbols : ℕ) → reported ≡ Size symbols → IsSomeAnd table (IsLarge symbols)
   size_only None o symbols e = none_of (Size symbols) e (λ f. absurd (cc)) o (λ s p h. h.decided)
-  size_only (Some r) o symbols e =
-      let h = tried_at r o in
-      let reason : IsReason h.2.rounds h.2.input r.lines r.given h.1 (Size symbols) = subst (IsReason h.2.rounds h.2.input r.lines r.given h.1) e h.2.decided.1 in
-      reason.1
+  size_only (Some t) o symbols e = cause_of t o (Size symbols) e (λ f. absurd (cc))
 
 -- ---- told bytes
 
@@ -183,21 +180,22 @@ both r a b e f = let h : Ok a ≡ Err b = sym e ∙ f in absurd (cc)
 one_fault : (r : Result Problem Fault) (a b : Fault) → r ≡ Err a → r ≡ Err b → a ≡ b
 one_fault r a b e f = let h : Err a ≡ Err b = sym e ∙ f in cc
 
-module _ (call : Call) (signature : List Declared) (run : Option Run) (proof : List Line) (bytes : List ℕ) (told : IsTold call.words call.before call.faults_before call.faults_after bytes) where
+module _ (call : Call) (signature : List Declared) (table : Option State) (proof : List Line) (bytes : List ℕ) (told : IsTold call.words call.before call.faults_before call.faults_after bytes) where
   whole : (came : List ℕ) → CameWhole call.before call.after most_bytes came → came ≡ bytes
   whole came = came_told call.before call.after bytes came told.told
 
-  no_words : rounds_of call.words ≡ None → ⊥
-  no_words = no_fit _ told.rounds told.fits
+  no_words : limits_of call.words ≡ None → ⊥
+  no_words = no_fit _ told.limits told.fits
 
   -- a problem was read, and these bytes have a fault
   not_read : (fault : Fault) (s : List Declared) (input : _) → problem bytes ≡ Err fault → IsInput call.before call.after s input → ⊥
   not_read fault s input f h = both (problem bytes) h.read fault (subst (λ b. problem b ≡ Ok h.read) (whole h.bytes h.came) h.spelled) f
 
-  input_cases : (fault : Fault) (answer : Answer) → length bytes ≤ most_bytes → problem bytes ≡ Err fault → IsCause call signature run proof answer → IsUnlessMemory (Input fault) answer
+  input_cases : (fault : Fault) (answer : Answer) → length bytes ≤ most_bytes → problem bytes ≡ Err fault → IsCause call signature table proof answer → IsUnlessMemory (Input fault) answer
   input_cases fault ProofFound small f h = absurd (not_read fault signature h.input f h.input_is)
   input_cases fault (Completion node kept put_off) small f h = absurd (not_read fault signature h.input f h.input_is)
   input_cases fault (Rounds count) small f h = absurd (not_read fault signature h.input f h.input_is)
+  input_cases fault (Steps limit) small f h = absurd (not_read fault signature h.input f h.input_is)
   input_cases fault (Size symbols) small f h = absurd (not_read fault signature h.input f h.input_is)
   input_cases fault Words small f h = absurd (no_words h.0)
   input_cases fault (Input other) small f h = inl (ap Input (one_fault (problem bytes) other fault (subst (λ b. problem b ≡ Err other) (whole h.1.bytes h.1.came) h.1.faulty) f))
@@ -209,10 +207,11 @@ module _ (call : Call) (signature : List Declared) (run : Option Run) (proof : L
   not_long : (came : List ℕ) → CameWhole call.before call.after most_bytes came → most_bytes < length bytes → ⊥
   not_long came h long = let e : length came ≡ length bytes = ap length (whole came h) in absurd (omega (arith, e, h.2, long))
 
-  long_cases : (answer : Answer) → most_bytes < length bytes → IsCause call signature run proof answer → IsUnlessMemory TooLong answer
+  long_cases : (answer : Answer) → most_bytes < length bytes → IsCause call signature table proof answer → IsUnlessMemory TooLong answer
   long_cases ProofFound long h = absurd (not_long h.input_is.bytes h.input_is.came long)
   long_cases (Completion node kept put_off) long h = absurd (not_long h.input_is.bytes h.input_is.came long)
   long_cases (Rounds count) long h = absurd (not_long h.input_is.bytes h.input_is.came long)
+  long_cases (Steps limit) long h = absurd (not_long h.input_is.bytes h.input_is.came long)
   long_cases (Size symbols) long h = absurd (not_long h.input_is.bytes h.input_is.came long)
   long_cases Words long h = absurd (no_words h.0)
   long_cases (Input fault) long h = absurd (not_long h.1.bytes h.1.came long)
@@ -220,10 +219,11 @@ module _ (call : Call) (signature : List Declared) (run : Option Run) (proof : L
   long_cases ReadFault long h = absurd (told.no_fault h.1)
   long_cases Memory long h = inr refl
 
-  complete_cases : (read : Problem) (answer : Answer) → length bytes ≤ most_bytes → problem bytes ≡ Ok read → IsCause call signature run proof answer → IsOfProving answer
+  complete_cases : (read : Problem) (answer : Answer) → length bytes ≤ most_bytes → problem bytes ≡ Ok read → IsCause call signature table proof answer → IsOfProving answer
   complete_cases read ProofFound small f h = tt
   complete_cases read (Completion node kept put_off) small f h = tt
   complete_cases read (Rounds count) small f h = tt
+  complete_cases read (Steps limit) small f h = tt
   complete_cases read (Size symbols) small f h = tt
   complete_cases read Words small f h = absurd (no_words h.0)
   complete_cases read (Input fault) small f h = absurd (both (problem bytes) read fault f (subst (λ b. problem b ≡ Err fault) (whole h.1.bytes h.1.came) h.1.faulty))
@@ -231,12 +231,12 @@ module _ (call : Call) (signature : List Declared) (run : Option Run) (proof : L
   complete_cases read ReadFault small f h = absurd (told.no_fault h.1)
   complete_cases read Memory small f h = tt
 
-module _ (call : Call) (run : Option Run) (reported : Answer) (failed : Bool) (old new : Option (List ℕ)) (o : IsOutcome call run reported failed old new) where
+module _ (call : Call) (table : Option State) (reported : Answer) (failed : Bool) (old new : Option (List ℕ)) (o : IsOutcome call table reported failed old new) where
   pub input_always : (bytes : List ℕ) (fault : Fault) → IsTold call.words call.before call.faults_before call.faults_after bytes → length bytes ≤ most_bytes → problem bytes ≡ Err fault → IsUnlessMemory (Input fault) reported
-  input_always bytes fault told small f = let r = reported_cause call run reported failed old new o in input_cases call r.signature run r.proof bytes told fault reported small f r.cause
+  input_always bytes fault told small f = let r = reported_cause call table reported failed old new o in input_cases call r.signature table r.proof bytes told fault reported small f r.cause
 
   pub too_long_always : (bytes : List ℕ) → IsTold call.words call.before call.faults_before call.faults_after bytes → most_bytes < length bytes → IsUnlessMemory TooLong reported
-  too_long_always bytes told long = let r = reported_cause call run reported failed old new o in long_cases call r.signature run r.proof bytes told reported long r.cause
+  too_long_always bytes told long = let r = reported_cause call table reported failed old new o in long_cases call r.signature table r.proof bytes told reported long r.cause
 
   pub complete : (bytes : List ℕ) (read : Problem) → IsTold call.words call.before call.faults_before call.faults_after bytes → length bytes ≤ most_bytes → problem bytes ≡ Ok read → IsOfProving reported
-  complete bytes read told small f = let r = reported_cause call run reported failed old new o in complete_cases call r.signature run r.proof bytes told read reported small f r.cause
+  complete bytes read told small f = let r = reported_cause call table reported failed old new o in complete_cases call r.signature table r.proof bytes told read reported small f r.cause

@@ -7,7 +7,7 @@ use Rattle.spl_symbols.specs.Symbols.{Declared}
 use Rattle.proof_steps.specs.declared.step.Line.{Line}
 use Rattle.proof_text.specs.Texts.{proof_text}
 use Rattle.prover_top.specs.declared.answers.Answer.{Answer}
-use Rattle.prover_top.specs.declared.answers.Answer.TheVariants.{ProofFound, Completion, Rounds, Size, Words, Input, TooLong, ReadFault, Memory}
+use Rattle.prover_top.specs.declared.answers.Answer.TheVariants.{ProofFound, Completion, Rounds, Steps, Size, Words, Input, TooLong, ReadFault, Memory}
 
 abbrev pub found_text : List Declared → List Line → List ℕ
 found_text signature proof = codes "Proof found.\n" ++ proof_text signature proof
@@ -17,6 +17,9 @@ completion_text node kept put_off = codes "Completion found.\nCase " ++ decimal 
 
 abbrev pub rounds_text : ℕ → List ℕ
 rounds_text count = codes "Gave up: rounds " ++ decimal count ++ codes ".\n"
+
+abbrev pub steps_text : ℕ → List ℕ
+steps_text limit = codes "Gave up: steps " ++ decimal limit ++ codes ".\n"
 
 abbrev pub size_text : ℕ → List ℕ
 size_text symbols = codes "Gave up: size " ++ decimal symbols ++ codes ".\n"
@@ -38,6 +41,7 @@ abbrev pub answer_text : List Declared → List Line → Answer → List ℕ
 answer_text signature proof ProofFound = found_text signature proof
 answer_text signature proof (Completion node kept put_off) = completion_text node kept put_off
 answer_text signature proof (Rounds count) = rounds_text count
+answer_text signature proof (Steps limit) = steps_text limit
 answer_text signature proof (Size symbols) = size_text symbols
 answer_text signature proof Words = codes "Words refused.\n"
 answer_text signature proof (Input fault) = input_text fault.at fault.kind
@@ -49,6 +53,7 @@ abbrev pub status_of : Answer → ℕ
 status_of ProofFound = 0
 status_of (Completion node kept put_off) = 1
 status_of (Rounds count) = 2
+status_of (Steps limit) = 2
 status_of (Size symbols) = 2
 status_of Words = 3
 status_of (Input fault) = 4

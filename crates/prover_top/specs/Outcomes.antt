@@ -1,22 +1,28 @@
 -- Why a call gives its answer.
-use Rattle.std.specs.Prelude.{◌≡◌, ◌⊎◌, ℕ, List, length, Option, Some, None, Ok, Err, ⊤}
+use Rattle.std.specs.Prelude.{◌≡◌, ◌⊎◌, ℕ, List, Option, Some, None, IsSome, Ok, Err, ⊤}
 use Rattle.outside_io.specs.Outside.{Rose, CameWhole, CamePast}
 use Rattle.spl_terms.specs.declared.clause.Clause.{Clause}
 use Rattle.spl_truth.specs.Truth.{Refuted}
 use Rattle.spl_symbols.specs.Symbols.{Declared}
 use Rattle.proof_steps.specs.declared.step.Line.{Line}
 use Rattle.proof_steps.specs.Checked.{Checked}
-use Rattle.ground_loop.specs.declared.saturating.Run.{Run}
-use Rattle.ground_loop.specs.Runs.{IsRun}
-use Rattle.ground_loop.specs.Ends.{HasNoEmpty, IsSaturated, IsSpent, IsTooLarge}
-use Rattle.ground_loop.specs.Proofs.{IsProofIn}
+use Rattle.split_tree.specs.declared.event.Limits.{Limits}
+use Rattle.split_tree.specs.declared.event.End.{End}
+use Rattle.split_tree.specs.declared.event.End.TheVariants as ends
+use Rattle.split_tree.specs.Journal.{ledger}
+use Rattle.split_tree.specs.State.{State}
+use Rattle.split_tree.specs.Ending.{reason}
+use Rattle.split_tree.specs.Legal.{IsLegalJournal}
+use Rattle.proof_extract.specs.Extracting.{IsProofOf}
+use Rattle.proof_extract.specs.Contradictions.{IsFirstContradiction}
 use Rattle.dfg_reader.specs.declared.fault.ReadFault.{ReadFault}
 use Rattle.dfg_reader.specs.declared.problem.Problem.{Problem}
 use Rattle.dfg_reader.specs.Problems.{problem}
 use Rattle.dfg_reader.specs.GroundClauses.{clauses}
 use Rattle.prover_top.specs.declared.answers.Answer.{Answer}
 use Rattle.prover_top.specs.declared.answers.Answer.TheVariants as answers
-use Rattle.prover_top.specs.Words.{rounds_of}
+use Rattle.prover_top.specs.Words.{limits_of}
+use Rattle.prover_top.specs.Endings.{kept_count}
 
 -- ---- what came in
 
@@ -49,59 +55,70 @@ pub record IsRefused (before after : Option (List ℕ)) (fault : ReadFault) : Ty
 
 -- ---- what proving gave
 
--- the proof in the lines: it is checked against the input clauses, which are refuted
-pub record IsProved (input : List Clause) (lines proof : List Line) : Type 0 where
-  pub proof_in : IsProofIn lines proof
-  pub checked : Checked input proof
-  pub refuted : Refuted input
+-- one worker proved these clauses within these limits until a legal journal ended
+pub record IsTableOf (limits : Limits) (input : List Clause) (t : State) : Type 0 where
+  pub input_is : t.setting.input ≡ input
+  pub limits_are : t.setting.limits ≡ limits
+  pub one_worker : t.setting.workers ≡ 1
+  pub legal : IsLegalJournal t.setting t.past
+  pub ended : IsSome (reason t.setting t.past)
 
--- nothing is left to do in the one case, whose clauses are the lines
-pub record IsComplete (node kept put_off : ℕ) (lines : List Line) (given : List ℕ) : Type 0 where
-  pub root : node ≡ 0
-  pub all_kept : kept ≡ length lines
-  pub none_put_off : put_off ≡ 0
-  pub saturated : IsSaturated lines given
+-- the lines that lead to the first contradiction of the ledger: they are checked against the input, which is refuted
+pub record IsProved (t : State) (proof : List Line) : Type 0 where
+  pub number : ℕ
+  pub first : IsFirstContradiction (ledger t.setting t.past) number
+  pub leads : IsProofOf (ledger t.setting t.past) number proof
+  pub checked : Checked t.setting.input proof
+  pub refuted : Refuted t.setting.input
 
--- why a run that was allowed so many rounds gives the answer; want of memory is free
-abbrev pub IsReason : ℕ → List Clause → List Line → List ℕ → List Line → Answer → Type 0
-IsReason rounds input lines given proof answers.ProofFound = IsProved input lines proof
-IsReason rounds input lines given proof (answers.Completion node kept put_off) = HasNoEmpty lines × IsComplete node kept put_off lines given
-IsReason rounds input lines given proof (answers.Rounds count) = HasNoEmpty lines × (count ≡ rounds) × IsSpent rounds lines given
-IsReason rounds input lines given proof (answers.Size symbols) = HasNoEmpty lines × IsTooLarge lines given symbols
-IsReason rounds input lines given proof answers.Words = ⊥
-IsReason rounds input lines given proof (answers.Input fault) = ⊥
-IsReason rounds input lines given proof answers.TooLong = ⊥
-IsReason rounds input lines given proof answers.ReadFault = ⊥
-IsReason rounds input lines given proof answers.Memory = ⊤
+-- the answer of a table for which proving ended so
+abbrev pub answer_for : State → Option End → Answer
+answer_for t (Some ends.Proved) = answers.ProofFound
+answer_for t (Some (ends.Completed node)) = answers.Completion node (kept_count t.setting t.past node) 0
+answer_for t (Some ends.Rounds) = answers.Rounds t.setting.limits.rounds
+answer_for t (Some ends.Steps) = answers.Steps t.setting.limits.steps
+answer_for t (Some (ends.Size symbols)) = answers.Size symbols
+answer_for t (Some ends.Memory) = answers.Memory
+answer_for t None = answers.Memory
 
--- the run of the input clauses and the answer that it gives; without a run only want of memory
-abbrev pub IsDecided : ℕ → List Clause → Option Run → List Line → Answer → Type 0
-IsDecided rounds input None proof answer = answer ≡ answers.Memory
-IsDecided rounds input (Some run) proof answer = IsRun input run.lines run.given × IsReason rounds input run.lines run.given proof answer
+-- the answer of the table, by the first event that ends its journal
+abbrev pub answer_of : State → Answer
+answer_of t = answer_for t (reason t.setting t.past)
+
+-- the answer is that of the table, with its proof where it is one; want of memory may take its place
+pub record IsAnswered (t : State) (proof : List Line) (answer : Answer) : Type 0 where
+  pub is : (answer ≡ answer_of t) ⊎ (answer ≡ answers.Memory)
+  pub proved : answer ≡ answers.ProofFound → IsProved t proof
+
+-- the table of the input clauses and the answer that it gives; without a table only want of memory
+abbrev pub IsDecided : Limits → List Clause → Option State → List Line → Answer → Type 0
+IsDecided limits input None proof answer = answer ≡ answers.Memory
+IsDecided limits input (Some t) proof answer = IsTableOf limits input t × IsAnswered t proof answer
 
 -- ---- the table of causes
 
 -- the words fit, a problem was read, and this came of it
-pub record IsTried (call : Call) (signature : List Declared) (run : Option Run) (proof : List Line) (answer : Answer) : Type 0 where
-  pub rounds : ℕ
+pub record IsTried (call : Call) (signature : List Declared) (table : Option State) (proof : List Line) (answer : Answer) : Type 0 where
+  pub limits : Limits
   pub input : List Clause
-  pub fits : rounds_of call.words ≡ Some rounds
+  pub fits : limits_of call.words ≡ Some limits
   pub input_is : IsInput call.before call.after signature input
-  pub decided : IsDecided rounds input run proof answer
+  pub decided : IsDecided limits input table proof answer
 
 -- the words fit
 pub record Fits (call : Call) : Type 0 where
-  pub rounds : ℕ
-  pub fits : rounds_of call.words ≡ Some rounds
+  pub limits : Limits
+  pub fits : limits_of call.words ≡ Some limits
 
 -- the cause of each answer; want of memory is free
-abbrev pub IsCause : Call → List Declared → Option Run → List Line → Answer → Type 0
-IsCause call signature run proof answers.ProofFound = IsTried call signature run proof answers.ProofFound
-IsCause call signature run proof (answers.Completion node kept put_off) = IsTried call signature run proof (answers.Completion node kept put_off)
-IsCause call signature run proof (answers.Rounds count) = IsTried call signature run proof (answers.Rounds count)
-IsCause call signature run proof (answers.Size symbols) = IsTried call signature run proof (answers.Size symbols)
-IsCause call signature run proof answers.Words = (rounds_of call.words ≡ None) × (run ≡ None)
-IsCause call signature run proof (answers.Input fault) = Fits call × IsRefused call.before call.after fault × (run ≡ None)
-IsCause call signature run proof answers.TooLong = Fits call × CamePast call.before call.after most_bytes × (run ≡ None)
-IsCause call signature run proof answers.ReadFault = Fits call × Rose call.faults_before call.faults_after × (run ≡ None)
-IsCause call signature run proof answers.Memory = (run ≡ None) ⊎ IsTried call signature run proof answers.Memory
+abbrev pub IsCause : Call → List Declared → Option State → List Line → Answer → Type 0
+IsCause call signature table proof answers.ProofFound = IsTried call signature table proof answers.ProofFound
+IsCause call signature table proof (answers.Completion node kept put_off) = IsTried call signature table proof (answers.Completion node kept put_off)
+IsCause call signature table proof (answers.Rounds count) = IsTried call signature table proof (answers.Rounds count)
+IsCause call signature table proof (answers.Steps limit) = IsTried call signature table proof (answers.Steps limit)
+IsCause call signature table proof (answers.Size symbols) = IsTried call signature table proof (answers.Size symbols)
+IsCause call signature table proof answers.Words = (limits_of call.words ≡ None) × (table ≡ None)
+IsCause call signature table proof (answers.Input fault) = Fits call × IsRefused call.before call.after fault × (table ≡ None)
+IsCause call signature table proof answers.TooLong = Fits call × CamePast call.before call.after most_bytes × (table ≡ None)
+IsCause call signature table proof answers.ReadFault = Fits call × Rose call.faults_before call.faults_after × (table ≡ None)
+IsCause call signature table proof answers.Memory = (table ≡ None) ⊎ IsTried call signature table proof answers.Memory

@@ -6,22 +6,26 @@ use dfg_reader::ReadFault;
 /// What the program answers.
 #[derive(Clone, Copy, PartialEq, Eq, Debug)]
 pub enum Answer {
-    /// A line states the empty clause; the text has the proof.
+    /// The empty clause was published without assumptions, or is an input clause; the text has the proof.
     ProofFound,
-    /// Each line of the case was given, and each conclusion of them is a tautology or subsumed by a line.
+    /// Nothing is left to choose at a leaf: the case is complete.
     Completion {
-        /// The case, from 0; there is only case 0 yet.
+        /// The leaf, from 0, the root.
         node: u32,
-        /// How many lines there are.
+        /// How many clauses are kept there.
         kept: u32,
         /// How many of them are put off; none yet.
         put_off: u32,
     },
-    /// As many lines were given as was allowed.
+    /// As many clauses were chosen as may be.
     Rounds {
         count: u32,
     },
-    /// A conclusion has more than 4,096 symbols; they are counted up to 1,000,000.
+    /// The next steps would pass the limit of steps.
+    Steps {
+        limit: u32,
+    },
+    /// An inference has more than 4,096 symbols; they are counted up to 1,000,000.
     Size {
         symbols: u64,
     },
@@ -46,6 +50,7 @@ impl Answer {
             Answer::ProofFound => 0,
             Answer::Completion { .. } => 1,
             Answer::Rounds { .. } => 2,
+            Answer::Steps { .. } => 2,
             Answer::Size { .. } => 2,
             Answer::Words => 3,
             Answer::Input(_) => 4,

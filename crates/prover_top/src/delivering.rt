@@ -1,6 +1,6 @@
 ghost use Rattle.std.specs.Prelude.{◌≡◌, ◌⊎◌, ◌<◌, ◌≤◌, ◌^◌, ◌++◌, length, codes, OnOk, IfOk, IsTrue};
 ghost use Rattle.outside_io.specs.Outside.{Rose};
-ghost use Rattle.prover_top.specs.Answers.{found_text, completion_text, rounds_text, size_text, kind_text, input_text, answer_text, reported_status};
+ghost use Rattle.prover_top.specs.Answers.{found_text, completion_text, rounds_text, steps_text, size_text, kind_text, input_text, answer_text, reported_status};
 ghost use Rattle.prover_top.specs.Deliveries.{Wrote, IsDelivered};
 
 use crate::answers::Answer;
@@ -48,6 +48,15 @@ fn push_rounds(alloc: Global, out: &mut Vec<u8>, count: u32) -> Result<(), Alloc
 {
     push_bytes(out, b"Gave up: rounds ")?;
     push_number(alloc, out, count as u64)?;
+    push_bytes(out, b".\n")?;
+    Ok(())
+}
+
+fn push_steps(alloc: Global, out: &mut Vec<u8>, limit: u32) -> Result<(), AllocError>
+    ensures { OnOk result (out.new.items ≡ out.old.items ++ steps_text limit) }
+{
+    push_bytes(out, b"Gave up: steps ")?;
+    push_number(alloc, out, limit as u64)?;
     push_bytes(out, b".\n")?;
     Ok(())
 }
@@ -104,6 +113,7 @@ fn push_answer(
             put_off,
         } => push_completion(alloc, out, node, kept, put_off),
         Answer::Rounds { count } => push_rounds(alloc, out, count),
+        Answer::Steps { limit } => push_steps(alloc, out, limit),
         Answer::Size { symbols } => push_size(alloc, out, symbols),
         Answer::Words => push_bytes(out, b"Words refused.\n"),
         Answer::Input(fault) => push_input(alloc, out, fault),

@@ -1,106 +1,171 @@
-ghost use Rattle.std.specs.Prelude.{◌≡◌, ◌<◌, ◌≤◌, ◌^◌, length, Some, None, []};
-ghost use Rattle.ground_loop.specs.Runs.{IsRun};
-ghost use Rattle.ground_loop.specs.Ends.{IsFirstEmpty};
-ghost use Rattle.ground_loop.specs.Endings.{IsEnd};
-ghost use Rattle.prover_top.specs.Outcomes.{IsDecided};
+//! Proving: a table, one worker's events, and what their journal says.
+ghost use Rattle.std.specs.Prelude.{◌≡◌, ◌<◌, ◌≤◌, ◌^◌, [], length, IfOk, IfSome, IsSome, None, Some};
+ghost use Rattle.spl_truth.specs.Truth.{Refuted};
+ghost use Rattle.split_tree.specs.declared.event.End.TheVariants.{Proved};
+ghost use Rattle.split_tree.specs.Journal.{ledger, nodes, steps};
+ghost use Rattle.split_tree.specs.Ending.{reason};
+ghost use Rattle.split_tree.specs.Legal.{IsLegalJournal};
+ghost use Rattle.proof_extract.specs.Extracting.{IsProofOf};
+ghost use Rattle.proof_extract.specs.Contradictions.{IsFirstContradiction};
+ghost use Rattle.prover_top.specs.Endings.{kept_among, kept_count};
+ghost use Rattle.prover_top.specs.Outcomes.{IsTableOf, IsProved, answer_of, IsAnswered, IsDecided};
 
 use crate::answers::Answer;
-use ground_loop::{End, Run, proof_of, saturate};
+use proof_extract::{extract, first_contradiction};
 use proof_steps::Line;
 use spl_terms::{Clause, Items};
-use std::alloc::Global;
+use split_tree::{End, Limits, Table};
+use std::alloc::{AllocError, Global};
+use worker_cases::alone;
 
-/// An answer, and the run and the proof behind it.
+/// An answer, and the table and the proof behind it.
 #[derive(Debug, Drop)]
 pub struct Decided {
     pub answer: Answer,
-    pub run: Option<Run>,
+    pub table: Option<Table>,
     /// The proof where the answer is one, else empty.
     pub proof: Items<Line>,
 }
 
-/// An answer without a run.
-pub fn without_run(alloc: Global, answer: Answer) -> Decided
+/// An answer without a table.
+pub fn without_table(alloc: Global, answer: Answer) -> Decided
     ensures answer { result.answer ≡ answer }
-    ensures run { result.run ≡ None }
+    ensures table { result.table ≡ None }
     ensures proof { result.proof ≡ [] }
 {
     Decided {
         answer,
-        run: None,
+        table: None,
         proof: Items::new(alloc),
     }
 }
 
-fn found(alloc: Global, input: &[Clause], run: Run, line: u32) -> Decided
-    requires run { IsRun input.now run.lines run.given }
-    requires count { length run.lines < 2 ^ 32 }
-    requires first { IsFirstEmpty run.lines line }
-    ensures decided { (rounds : _) → IsDecided rounds input.now result.run result.proof result.answer }
+/// An answer of a table that gave no proof.
+fn without_proof(alloc: Global, table: Table, answer: Answer) -> Decided
+    ensures answer { result.answer ≡ answer }
+    ensures table { result.table ≡ Some table }
+    ensures proof { result.proof ≡ [] }
+{
+    Decided {
+        answer,
+        table: Some(table),
+        proof: Items::new(alloc),
+    }
+}
+
+// ---- proofs
+
+/// The number of the first line that states a contradiction, from 1.
+fn contradiction(table: &Table) -> u32
+    requires { reason table.now.setting table.now.past ≡ Some Proved }
+    ensures first { IsFirstContradiction (ledger table.now.setting table.now.past) result }
+    ensures some { 1 ≤ result }
+    ensures there { result ≤ steps table.now.setting table.now.past }
+{
+    table.journal_is_legal();
+    match first_contradiction(table) {
+        Some(number) => number,
+        None => unreachable!(),
+    }
+}
+
+/// The lines that lead to the first contradiction.
+fn proof_in(alloc: Global, table: &Table) -> Result<Items<Line>, AllocError>
+    requires proved { reason table.now.setting table.now.past ≡ Some Proved }
+    ensures proved { IfOk result (λ proof. IsProved table.now proof) }
+    ensures short { IfOk result (λ proof. length proof < 2 ^ 32) }
+{
+    let number = contradiction(table);
+    let proof = extract(alloc, table, number)?;
+    Ok(proof)
+}
+
+fn found(alloc: Global, table: Table) -> Decided
+    requires { reason table.setting table.past ≡ Some Proved }
+    ensures answered { IsAnswered table result.proof result.answer }
+    ensures table { result.table ≡ Some table }
     ensures short { length result.proof < 2 ^ 32 }
 {
-    match proof_of(alloc, input, &run, line) {
+    match proof_in(alloc, &table) {
         Ok(proof) => Decided {
             answer: Answer::ProofFound,
-            run: Some(run),
+            table: Some(table),
             proof,
         },
-        Err(_) => Decided {
-            answer: Answer::Memory,
-            run: Some(run),
-            proof: Items::new(alloc),
-        },
+        Err(_) => without_proof(alloc, table, Answer::Memory),
     }
 }
 
-/// An answer of a run that found no proof.
-fn with_run(alloc: Global, run: Run, answer: Answer) -> Decided
-    ensures answer { result.answer ≡ answer }
-    ensures run { result.run ≡ Some run }
-    ensures proof { result.proof ≡ [] }
-{
-    Decided {
-        answer,
-        run: Some(run),
-        proof: Items::new(alloc),
-    }
-}
+// ---- other answers
 
-fn decide(alloc: Global, input: &[Clause], rounds: u32, run: Run, end: End) -> Decided
-    requires run { IsRun input.now run.lines run.given }
-    requires count { length run.lines < 2 ^ 32 }
-    requires end { IsEnd rounds run.lines run.given end }
-    ensures decided { IsDecided rounds input.now result.run result.proof result.answer }
-    ensures short { length result.proof < 2 ^ 32 }
+/// How many clauses are kept at the node.
+fn kept_count(table: &Table, node: u32) -> u32
+    requires { node < nodes table.now.past }
+    ensures { result ≡ kept_count table.now.setting table.now.past node }
 {
-    match end {
-        End::Empty { line } => found(alloc, input, run, line),
-        End::Saturated => {
-            let kept = run.lines.len() as u32;
-            with_run(
-                alloc,
-                run,
-                Answer::Completion {
-                    node: 0,
-                    kept,
-                    put_off: 0,
-                },
-            )
+    let mut count = 0;
+    for k in 0..table.steps() {
+        if table.kept(node, k + 1) {
+            count += 1;
         }
-        End::Rounds => with_run(alloc, run, Answer::Rounds { count: rounds }),
-        End::Large { symbols } => with_run(alloc, run, Answer::Size { symbols }),
-        End::Memory => with_run(alloc, run, Answer::Memory),
+    }
+    count
+}
+
+/// The answer of a table for which proving has ended.
+fn answer_of(table: &Table) -> Answer
+    requires { IsLegalJournal table.now.setting table.now.past }
+    ensures { result ≡ answer_of table.now }
+{
+    match table.reason() {
+        Some(End::Proved) => Answer::ProofFound,
+        Some(End::Completed { node }) => Answer::Completion {
+            node,
+            kept: kept_count(table, node),
+            put_off: 0,
+        },
+        Some(End::Rounds) => Answer::Rounds {
+            count: table.limits().rounds,
+        },
+        Some(End::Steps) => Answer::Steps {
+            limit: table.limits().steps,
+        },
+        Some(End::Size { symbols }) => Answer::Size { symbols },
+        Some(End::Memory) | None => Answer::Memory,
     }
 }
 
-/// Resolves the clauses, which have no variables, with so many rounds at most, and says what came of it.
-pub fn prove(alloc: Global, input: &[Clause], rounds: u32) -> Decided
-    requires { length input.now < 2 ^ 32 }
-    ensures decided { IsDecided rounds input.now result.run result.proof result.answer }
+fn decide(alloc: Global, table: Table) -> Decided
+    ensures answered { IsAnswered table result.proof result.answer }
+    ensures table { result.table ≡ Some table }
+    ensures legal { IsLegalJournal table.setting table.past }
     ensures short { length result.proof < 2 ^ 32 }
 {
-    match saturate(alloc, input, rounds) {
-        Ok(ended) => decide(alloc, input, rounds, ended.run, ended.end),
-        Err(_) => without_run(alloc, Answer::Memory),
+    table.journal_is_legal();
+    match answer_of(&table) {
+        Answer::ProofFound => found(alloc, table),
+        answer => without_proof(alloc, table, answer),
+    }
+}
+
+fn work(alloc: Global, mut table: Table) -> Decided
+    requires begun { table.past ≡ [] }
+    requires worker { table.setting.workers ≡ 1 }
+    ensures decided { IsDecided table.setting.limits table.setting.input result.table result.proof result.answer }
+    ensures short { length result.proof < 2 ^ 32 }
+{
+    alone(alloc, &mut table);
+    decide(alloc, table)
+}
+
+/// Proves the clauses within the limits, with one worker, and says what came of it.
+pub fn prove(alloc: Global, input: &[Clause], limits: Limits) -> Decided
+    requires few { length input.now ≤ 65536 }
+    ensures decided { IsDecided limits input.now result.table result.proof result.answer }
+    ensures short { length result.proof < 2 ^ 32 }
+{
+    match Table::start(alloc, input, limits, 1) {
+        Ok(table) => work(alloc, table),
+        Err(_) => without_table(alloc, Answer::Memory),
     }
 }

@@ -15,7 +15,7 @@ use Rattle.split_tree.proofs.Places.{node_there}
 use Rattle.split_tree.proofs.Climb.{or_absorb, on_path-self, stem_old, nodes_some, stem_high}
 use Rattle.split_tree.proofs.Past.{length-branches}
 
-branch_old : (ev : Event) (count m : ℕ) (o : Option Branch) → m < count → branch_by ev count m o ≡ o
+pub branch_old : (ev : Event) (count m : ℕ) (o : Option Branch) → m < count → branch_by ev count m o ≡ o
 branch_old (Split node lines put_off) count m o h =
     let one = Some (branch_to node (subject lines) 1) in
     let two = Some (branch_to node (subject lines) 2) in

@@ -14,3 +14,7 @@ pub mod Positive
 pub mod Examples
 pub mod Leaves
 pub mod Lens
+pub mod Standing
+pub mod Depends
+pub mod Closed
+pub mod Ended

@@ -294,3 +294,17 @@ AreSmall-append xs ys a b k l h = elim (cases_lt k (length xs)) [
 pub length-weights : (xs : List Line) → length (weights xs) ≡ length xs
 length-weights [] = refl
 length-weights (x ∷ xs) = omega (arith, length-weights xs)
+
+-- ---- the numbers of empty clauses ascend
+
+empties_step : (n : ℕ) (l : Line) (ls : List Line) (c : Bool) (a b x y : ℕ) → ((a b : ℕ) → slice_get (empties (n + 1) ls) a ≡ Some x → slice_get (empties (n + 1) ls) b ≡ Some y → x < y → a < b)
+    → slice_get (cond c (n ∷ empties (n + 1) ls) (empties (n + 1) ls)) a ≡ Some x → slice_get (cond c (n ∷ empties (n + 1) ls) (empties (n + 1) ls)) b ≡ Some y → x < y → a < b
+empties_step n l ls true zero zero x y more g h low = let p : n ≡ x = cc in let q : n ≡ y = cc in absurd (omega arith)
+empties_step n l ls true zero (suc b) x y more g h low = omega arith
+empties_step n l ls true (suc a) zero x y more g h low = let q : n ≡ y = cc in let r = (get_empty (n + 1) ls a x g).low in absurd (omega arith)
+empties_step n l ls true (suc a) (suc b) x y more g h low = let r = more a b g h low in omega arith
+empties_step n l ls false a b x y more g h low = more a b g h low
+
+pub empties_ascend : (n : ℕ) (lines : List Line) (a b x y : ℕ) → slice_get (empties n lines) a ≡ Some x → slice_get (empties n lines) b ≡ Some y → x < y → a < b
+empties_ascend n [] a b x y g h low = cc
+empties_ascend n (l ∷ ls) a b x y g h low = empties_step n l ls (is_empty l.stated.clause) a b x y (λ i j p q r. empties_ascend (n + 1) ls i j x y p q r) g h low

@@ -4,6 +4,7 @@ pub mod Facts
 pub mod Picking
 pub mod Ending
 pub mod Legal
+pub mod Closing
 pub mod Caches
 pub mod State
 pub mod Fields

@@ -1,14 +1,17 @@
 //! The table: a legal journal, and what is computed from it.
 mod reading;
 
-ghost use Rattle.std.specs.Prelude.{◌≡◌, ◌-◌, ◌<◌, ◌≤◌, ◌^◌, ◌&&◌, not, if◌then◌else◌, IfOk, OnOk, OnErr, [], ◌∷◌, length, replicate, None, Some};
+ghost use Rattle.std.specs.Prelude.{◌≡◌, ℕ, ◌-◌, ◌<◌, ◌≤◌, ◌^◌, ◌&&◌, not, if◌then◌else◌, IfOk, OnOk, OnErr, IsSome, [], ◌∷◌, length, replicate, true, None, Some};
 ghost use Rattle.spl_terms.specs.Clauses.{clause_symbols};
+ghost use Rattle.proof_steps.specs.declared.step.Line.{Line};
 ghost use Rattle.proof_steps.specs.Checked.{AreConclusions};
+ghost use Rattle.proof_steps.specs.Steps.{numbered, is_covered_rule};
 ghost use Rattle.split_tree.specs.Journal.{input_line, input_lines, lines_of, ledger, nodes};
-ghost use Rattle.split_tree.specs.Facts.{cost_of, chosen};
+ghost use Rattle.split_tree.specs.Facts.{cost_of, chosen, IsDead, Holds};
 ghost use Rattle.split_tree.specs.Ending.{has_empty, first_end, reason};
 ghost use Rattle.split_tree.specs.Caches.{empties, weights, AreSmall, retired_by, IsNodeOf, new_state, seats};
-ghost use Rattle.split_tree.specs.Legal.{IsLegal, IsLegalJournal, IsSettled};
+ghost use Rattle.split_tree.specs.Legal.{IsLegal, IsLegalJournal, IsSettled, IsClaimable};
+ghost use Rattle.split_tree.specs.Closing.{IsClosed};
 
 use crate::branch::Branch;
 use crate::caches::{
@@ -365,6 +368,35 @@ impl Table {
         ensures { AreConclusions self.now.setting.input (ledger self.now.setting self.now.past) }
     {
         let _ = &self.journal;
+    }
+
+    /// The law of the rules: each line of the ledger is by one of the rules that `proof_steps` covers. It does nothing
+    /// when it runs.
+    pub fn rules_are_covered(&self)
+        ensures { (n : ℕ) (l : Line) → numbered (ledger self.now.setting self.now.past) n ≡ Some l → is_covered_rule l.step.rule ≡ true }
+    {
+        let _ = &self.journal;
+    }
+
+    /// The law on dead nodes: an empty clause stands at a node of the path of each, and depends on assumptions of that
+    /// node's path alone. Where no empty clause was published at a dead node itself, so that it is discarded, that
+    /// empty clause doesn't depend on the assumption of the node. It does nothing when it runs.
+    pub fn dead_nodes_are_closed(&self)
+        ensures { (m : ℕ) → m < nodes self.now.past → IsDead self.now.setting self.now.past m → IsClosed self.now.setting self.now.past m }
+    {
+        self.journal_is_legal();
+    }
+
+    /// The law of a dead root: where the tree is settled, nobody holds a node and no live leaf is left to claim, the
+    /// root is dead, an empty clause without assumptions is listed, and so proving has ended. It does nothing when it
+    /// runs.
+    pub fn dead_root_has_ended(&self)
+        requires settled { IsSettled self.now.setting self.now.past }
+        requires none { (m : ℕ) → ¬ IsClaimable self.now.setting self.now.past m }
+        requires idle { (w m : ℕ) → 1 ≤ w → w ≤ self.now.setting.workers → ¬ Holds self.now.setting self.now.past w m }
+        ensures { IsSome (reason self.now.setting self.now.past) }
+    {
+        self.journal_is_legal();
     }
 
     /// The law of a table that has not ended: no event ends the journal. It does nothing when it runs.

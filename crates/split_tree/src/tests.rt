@@ -5,6 +5,7 @@ ghost use Rattle.split_tree.specs.Journal.{nodes};
 ghost use Rattle.split_tree.specs.Ending.{reason};
 
 use super::*;
+use dep_sets::Deps;
 use spl_terms::{Atom, Clause, Items, Kind, Symbol};
 use std::alloc::{AllocError, Global};
 use std::test::Fail;
@@ -187,6 +188,8 @@ fn an_empty_clause_is_a_proof_at_once(rt: HostRuntime) -> Result<(), Fail> {
     assert!(rt; !claim(&mut table, 1)?);
     assert_eq!(rt; table.events(), 0);
     assert!(rt; !table.live(0));
+    assert_eq!(rt; table.first_empty(0), Some(1));
+    assert_eq!(rt; table.owner(0, &Deps::none(alloc)), 0);
     assert_eq!(rt; table.claim_next(), None);
     Ok(())
 }

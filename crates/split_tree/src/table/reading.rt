@@ -4,16 +4,16 @@ ghost use Rattle.spl_truth.specs.Picking.{better};
 ghost use Rattle.proof_steps.specs.declared.step.Line.{Line};
 ghost use Rattle.proof_steps.specs.Steps.{numbered};
 ghost use Rattle.split_tree.specs.Journal.{ledger, nodes, steps, counted, rounds, splits};
-ghost use Rattle.split_tree.specs.Paths.{on_path, branch, is_leaf, leaves};
+ghost use Rattle.split_tree.specs.Paths.{on_path, branch, owner, is_leaf, leaves};
 ghost use Rattle.split_tree.specs.Facts.{listed, kept, worked, split, chosen, claimed, IsDead, IsLive, Holds};
 ghost use Rattle.split_tree.specs.Picking.{is_passive, choices, weighed, pick_at};
 ghost use Rattle.split_tree.specs.Ending.{reason};
-ghost use Rattle.split_tree.specs.Legal.{IsClaimable, IsNextClaim};
+ghost use Rattle.split_tree.specs.Legal.{IsClaimable, IsNextClaim, IsFirstEmpty};
 
 use super::Table;
 use crate::branch::Branch;
 use crate::event::{End, Event, Limits};
-use dep_sets::Assumption;
+use dep_sets::{Assumption, Deps};
 use proof_steps::Line;
 use spl_terms::Clause;
 use spl_truth::{Candidate, better, is_fifth};
@@ -174,7 +174,7 @@ impl Table {
     }
 
     /// Whether the second node is on the path from the root to the first.
-    fn on_path(&self, node: u32, above: u32) -> bool
+    pub fn on_path(&self, node: u32, above: u32) -> bool
         requires { node < nodes self.now.past }
         ensures { result ≡ on_path self.now.past node above }
     {
@@ -186,6 +186,29 @@ impl Table {
             }
         }
         true
+    }
+}
+
+// ---- owners
+
+impl Table {
+    /// The deepest node of the path whose assumption is one of these; the root where there is none.
+    pub fn owner(&self, node: u32, deps: &Deps) -> u32
+        requires { node < nodes self.now.past }
+        ensures { result ≡ owner self.now.past deps.now node }
+    {
+        self.journal_is_legal();
+        let mut at = node;
+        while at != 0 {
+            let Some(branch) = self.branch(at) else {
+                return 0;
+            };
+            if deps.contains(branch.assumed) {
+                return at;
+            }
+            at = branch.parent;
+        }
+        0
     }
 }
 
@@ -215,17 +238,25 @@ impl Table {
         self.listed(node, clause)
     }
 
+    /// The empty clause with the smallest number that is listed at the node; none exactly where the node is live.
+    pub fn first_empty(&self, node: u32) -> Option<u32>
+        requires { node < nodes self.now.past }
+        ensures { MatchOption result (IsLive self.now.setting self.now.past node) (λ n. IsFirstEmpty self.now.setting self.now.past node n) }
+    {
+        for number in &self.empties {
+            if self.listed(node, *number) {
+                return Some(*number);
+            }
+        }
+        None
+    }
+
     /// Whether no empty clause is listed at the node.
     pub fn live(&self, node: u32) -> bool
         requires { node < nodes self.now.past }
         ensures { MatchBool result (IsLive self.now.setting self.now.past node) (IsDead self.now.setting self.now.past node) }
     {
-        for number in &self.empties {
-            if self.listed(node, *number) {
-                return false;
-            }
-        }
-        true
+        self.first_empty(node).is_none()
     }
 }
 

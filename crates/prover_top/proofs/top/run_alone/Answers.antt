@@ -1,23 +1,26 @@
-use Rattle.prover_top.proofs.Clauses.{run_lines, run_given, proof_only, run_unproved, completion_only, rounds_only, size_only, words_only, words_always, fault_only, too_long_only, input_only, too_long_always, input_always, complete}
+use Rattle.prover_top.proofs.Clauses.{has_table, has_answer, proof_only, proof_always, completion_only, rounds_only, steps_only, size_only, words_only, words_always, fault_only, too_long_only, input_only, too_long_always, input_always, complete}
 use Rattle.prover_top.proofs.top.run_alone.Goals as goal
 
-pub returns-clause-lines : goal.returns-clause-lines
-returns-clause-lines g c = run_lines _ _ _ _ _ _ c.respond.ensures.outcome
+pub returns-clause-table : goal.returns-clause-table
+returns-clause-table g c = has_table _ _ _ _ _ _ c.respond.ensures.outcome
 
-pub returns-clause-given : goal.returns-clause-given
-returns-clause-given g c = run_given _ _ _ _ _ _ c.respond.ensures.outcome
+pub returns-clause-answer : goal.returns-clause-answer
+returns-clause-answer g c = has_answer _ _ _ _ _ _ c.respond.ensures.outcome
 
 pub returns-clause-proof : goal.returns-clause-proof
 returns-clause-proof g c = proof_only _ _ _ _ _ _ c.respond.ensures.outcome
 
-pub returns-clause-unproved : goal.returns-clause-unproved
-returns-clause-unproved g c = run_unproved _ _ _ _ _ _ c.respond.ensures.outcome
+pub returns-clause-proof_always : goal.returns-clause-proof_always
+returns-clause-proof_always g c = proof_always _ _ _ _ _ _ c.respond.ensures.outcome
 
 pub returns-clause-completion : goal.returns-clause-completion
 returns-clause-completion g c = completion_only _ _ _ _ _ _ c.respond.ensures.outcome
 
 pub returns-clause-rounds : goal.returns-clause-rounds
 returns-clause-rounds g c = rounds_only _ _ _ _ _ _ c.respond.ensures.outcome
+
+pub returns-clause-steps : goal.returns-clause-steps
+returns-clause-steps g c = steps_only _ _ _ _ _ _ c.respond.ensures.outcome
 
 pub returns-clause-size : goal.returns-clause-size
 returns-clause-size g c = size_only _ _ _ _ _ _ c.respond.ensures.outcome

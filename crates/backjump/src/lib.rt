@@ -1,0 +1,11 @@
+//! Closing cases: where both sides of a split are closed, the node above is closed too.
+#![tactic(auto)]
+
+mod case_step;
+mod closing;
+mod settling;
+#[cfg(test)]
+mod tests;
+
+pub use closing::close;
+pub use settling::settle;

@@ -1,5 +1,0 @@
-use Rattle.std.proofs.Common.{length}
-use Rattle.ground_loop.proofs.extracting.+mark_all.Given as goal
-
-abbrev pub decreases-mark_all : goal.decreases-mark_all
-decreases-mark_all l = length l.numbers.now

@@ -1,6 +1,0 @@
-use Rattle.std.proofs.Common.{arith}
-use Rattle.ground_loop.proofs.MarkLemmas.{number_at}
-use Rattle.ground_loop.proofs.extracting.new_number.Goals as goal
-
-pub returns-else-end-eq0 : goal.returns-else-end-eq0
-returns-else-end-eq0 c = number_at c.args.marks.now c.args.counts.now c.args.number c.min-end.result c.requires (search arith) (omega (arith, c.if-end-eq0.false))

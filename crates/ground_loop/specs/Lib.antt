@@ -1,9 +1,0 @@
-pub mod Picking
-pub mod Runs
-pub mod Covering
-pub mod Ends
-pub mod Proofs
-pub mod Filing
-pub mod Partners
-pub mod Searching
-pub mod Endings

@@ -1,0 +1,249 @@
+-- Entries that stay linked, and lines that stay filed.
+use Rattle.std.proofs.Common.{◌≡◌, ◌⊎◌, inl, inr, ℕ, zero, suc, ◌+◌, ◌-◌, ◌<◌, ◌≤◌, ◌==◌, Bool, true, false, ◌||◌, if◌then◌else◌, List, [], ◌∷◌, ◌++◌, length, Option, Some, None, unwrap_or, refl, sym, ap, ◌∙◌, subst, arith, length-append}
+use Rattle.std.specs.Prelude.{nat_eq, MatchBool}
+use Rattle.std.specs.List.{slice_get}
+use Rattle.std.proofs.lemmas.Bool.{eqb-true, eq-eqb, cases_lt}
+use Rattle.std.proofs.lemmas.Option.{slice_get_within}
+use Rattle.indexmap.specs.IndexMap.{get}
+use Rattle.spl_terms.specs.declared.atom.Atom.{Atom}
+use Rattle.spl_terms.specs.declared.clause.Clause.{Clause}
+use Rattle.spl_truth.specs.Redundancy.{is_subclause}
+use Rattle.spl_truth.proofs.Subclauses.{equal_subclause}
+use Rattle.proof_steps.specs.declared.step.Line.{Line}
+use Rattle.proof_steps.specs.Steps.{numbered}
+use Rattle.worker_cases.specs.Covering.{Listing, IsNew}
+use Rattle.worker_cases.specs.declared.filing.Entry.{Entry}
+use Rattle.worker_cases.specs.declared.filing.Filing.{Filing}
+use Rattle.worker_cases.specs.Filing.{key, first_key, clause_key, before_arrow, after_arrow, HasKey, IsNewest, IsLinked, IsFiled, AreFiled, IsAdded, HasFiled, HasFiledFirst, HasNoSubclause, AreNoSubclauses}
+use Rattle.worker_cases.proofs.Lists.{get_left, get_snoc}
+
+-- ---- entries by number
+
+pub numbered_left : {A : Type 0} (xs : List A) (y : A) (n : ℕ) → n ≤ length xs → numbered (xs ++ y ∷ []) n ≡ numbered xs n
+numbered_left xs y zero h = refl
+numbered_left xs y (suc k) h = get_left xs y k (omega (arith, h))
+
+pub numbered_within : {A : Type 0} (xs : List A) (n : ℕ) (x : A) → numbered xs n ≡ Some x → (0 < n) × (n ≤ length xs)
+numbered_within xs zero x e = absurd (cc)
+numbered_within xs (suc k) x e = (omega arith, omega (arith, slice_get_within xs k x e))
+
+pub numbered_there : {A : Type 0} (xs : List A) (n : ℕ) → 0 < n → n ≤ length xs → (x : A) × (numbered xs n ≡ Some x)
+numbered_there xs zero p h = absurd (omega (arith, p))
+numbered_there [] (suc k) p h = absurd (omega (arith, h))
+numbered_there (x ∷ xs) (suc zero) p h = (x, refl)
+numbered_there (x ∷ xs) (suc (suc k)) p h = numbered_there xs (suc k) (omega arith) (omega (arith, h))
+
+pub numbered_snoc : {A : Type 0} (xs : List A) (y : A) (n : ℕ) (z : A) → numbered (xs ++ y ∷ []) n ≡ Some z → ((n ≤ length xs) × (numbered xs n ≡ Some z)) ⊎ ((n ≡ length xs + 1) × (y ≡ z))
+numbered_snoc xs y zero z e = absurd (cc)
+numbered_snoc xs y (suc k) z e = elim (get_snoc xs y k z e) [
+  | inl h ↦ inl (omega (arith, h.0), h.1)
+  | inr h ↦ inr (omega (arith, h.0), h.1)
+]
+
+pub numbered_last : {A : Type 0} (xs : List A) (y : A) → numbered (xs ++ y ∷ []) (length xs + 1) ≡ Some y
+numbered_last {A} xs y = let one : suc (length xs) ≡ length xs + 1 = omega arith in subst (λ n. numbered (xs ++ y ∷ []) n ≡ Some y) one (last xs)
+  where
+    last : (xs : List A) → numbered (xs ++ y ∷ []) (suc (length xs)) ≡ Some y
+    last [] = refl
+    last (x ∷ xs) = last xs
+
+pub last_numbered : {A : Type 0} (xs ys : List A) (y : A) → ys ≡ xs ++ y ∷ [] → numbered ys (length ys) ≡ Some y
+last_numbered {A} xs ys y e =
+    let long : length ys ≡ length xs + 1 = ap length e ∙ length-append xs (y ∷ []) in
+    ap (λ zs. numbered zs (length ys)) e ∙ ap (numbered (xs ++ y ∷ [])) long ∙ numbered_last xs y
+
+-- ---- the newest entry of a key
+
+keyed_left : (es : List Entry) (e : Entry) (key n : ℕ) → HasKey es key n → HasKey (es ++ e ∷ []) key n
+keyed_left es e key n h = (h.0, numbered_left es e n (numbered_within es n h.0 h.1).1 ∙ h.1, h.2)
+
+keyed_before : (es : List Entry) (e : Entry) (key n : ℕ) → n ≤ length es → HasKey (es ++ e ∷ []) key n → HasKey es key n
+keyed_before es e key n w h = (h.0, sym (numbered_left es e n w) ∙ h.1, h.2)
+
+newest_stays : (es : List Entry) (e : Entry) (key upto x : ℕ) → upto ≤ length es → IsNewest es key upto x → IsNewest (es ++ e ∷ []) key upto x
+newest_stays es e key upto x w h = record {
+  within = h.within;
+  own = λ p. keyed_left es e key x (h.own p);
+  last = λ y l u k. h.last y l u (keyed_before es e key y (omega (arith, w, u)) k);
+}
+
+newest_other : (es : List Entry) (e : Entry) (key x : ℕ) → (e.key ≡ key → ⊥) → IsNewest es key (length es) x → IsNewest (es ++ e ∷ []) key (length (es ++ e ∷ [])) x
+newest_other es e key x other h = record {
+  within = omega (arith, h.within, length-append es (e ∷ []));
+  own = λ p. keyed_left es e key x (h.own p);
+  last = λ y l u k. elim (numbered_snoc es e y k.0 k.1) [
+    | inl b ↦ h.last y l b.0 (k.0, b.1, k.2)
+    | inr a ↦ other (ap (λ (f : Entry). f.key) a.1 ∙ k.2)
+  ];
+}
+
+newest_last : (es : List Entry) (e : Entry) (key : ℕ) → e.key ≡ key → IsNewest (es ++ e ∷ []) key (length (es ++ e ∷ [])) (length es + 1)
+newest_last es e key same = record {
+  within = omega (arith, length-append es (e ∷ []));
+  own = λ p. (e, numbered_last es e, same);
+  last = λ y l u k. absurd (omega (arith, l, u, length-append es (e ∷ [])));
+}
+
+-- ---- the entries stay linked
+
+abbrev pub newest_in : Option ℕ → ℕ
+newest_in o = unwrap_or o 0
+
+linked_key : (es : List Entry) (e : Entry) (key : ℕ) (t : Bool) (o : Option ℕ) → (e.key == key) ≡ t → IsNewest es key (length es) (unwrap_or o 0) → IsNewest (es ++ e ∷ []) key (length (es ++ e ∷ [])) (unwrap_or (if t then Some (length es + 1) else o) 0)
+linked_key es e key true o is h = newest_last es e key (eqb-true e.key key is)
+linked_key es e key false o is h = newest_other es e key (unwrap_or o 0) (λ s. absurd (let c = sym is ∙ eq-eqb e.key key s in cc)) h
+
+pub linked_more : (old new : Filing) (e : Entry) → IsLinked old → ((q : ℕ) → get nat_eq new.newest q ≡ (if e.key == q then Some (length old.entries.items + 1) else get nat_eq old.newest q)) → e.older ≡ unwrap_or (get nat_eq old.newest e.key) 0 → new.entries.items ≡ old.entries.items ++ e ∷ [] → IsLinked new
+linked_more old new e l rule older items = record {
+  newest = λ q. subst (λ es. IsNewest es q (length es) (unwrap_or (get nat_eq new.newest q) 0)) (sym items)
+      (subst (λ o. IsNewest (es ++ e ∷ []) q (length (es ++ e ∷ [])) (unwrap_or o 0)) (sym (rule q))
+      (linked_key es e q (e.key == q) (get nat_eq old.newest q) refl (l.newest q)));
+  older = λ x f is. subst (λ es. IsNewest es f.key (x - 1) f.older) (sym items) (before x f (subst (λ es. numbered es x ≡ Some f) items is));
+}
+  where
+    es : List Entry
+    es = old.entries.items
+
+    before : (x : ℕ) (f : Entry) → numbered (es ++ e ∷ []) x ≡ Some f → IsNewest (es ++ e ∷ []) f.key (x - 1) f.older
+    before x f is = elim (numbered_snoc es e x f is) [
+      | inl b ↦ newest_stays es e f.key (x - 1) f.older (omega (arith, b.0)) (l.older x f b.1)
+      | inr a ↦ subst (λ (f : Entry). IsNewest (es ++ e ∷ []) f.key (x - 1) f.older) a.1
+          (subst (λ n. IsNewest (es ++ e ∷ []) e.key n e.older) (let less : length es ≡ x - 1 = omega (arith, a.0) in less)
+          (newest_stays es e e.key (length es) e.older (omega arith) (subst (IsNewest es e.key (length es)) (sym older) (l.newest e.key))))
+    ]
+
+pub linked_same : (old new : Filing) → IsLinked old → ((q : ℕ) → get nat_eq new.newest q ≡ get nat_eq old.newest q) → new.entries.items ≡ old.entries.items → IsLinked new
+linked_same old new l rule items = record {
+  newest = λ q. subst (λ es. IsNewest es q (length es) (unwrap_or (get nat_eq new.newest q) 0)) (sym items) (subst (λ o. IsNewest old.entries.items q (length old.entries.items) (unwrap_or o 0)) (sym (rule q)) (l.newest q));
+  older = λ x e is. subst (λ es. IsNewest es e.key (x - 1) e.older) (sym items) (l.older x e (subst (λ es. numbered es x ≡ Some e) items is));
+}
+
+pub none_linked : (filing : Filing) → ((q : ℕ) → get nat_eq filing.newest q ≡ None) → filing.entries.items ≡ [] → IsLinked filing
+none_linked filing rule items = record {
+  newest = λ q. subst (λ es. IsNewest es q (length es) (unwrap_or (get nat_eq filing.newest q) 0)) (sym items) (subst (λ o. IsNewest [] q 0 (unwrap_or o 0)) (sym (rule q)) (record { within = omega arith; own = λ p. absurd (omega (arith, p)); last = λ y l u k. absurd (omega (arith, l, u)) }));
+  older = λ x e is. absurd (omega (arith, numbered_within filing.entries.items x e is, ap length items));
+}
+
+-- ---- the lines stay filed
+
+pub filed_left : (es : List Entry) (e : Entry) (key value : ℕ) → IsFiled es key value → IsFiled (es ++ e ∷ []) key value
+filed_left es e key value h = (h.0, h.1, numbered_left es e h.0 (numbered_within es h.0 h.1 h.2).1 ∙ h.2, h.3, h.4)
+
+-- ---- filing one line after another
+
+added_length : (old new : List Entry) (key value : ℕ) → IsAdded old new key value → length new ≡ length old + 1
+added_length old new key value a = ap length a.last ∙ length-append old (record { key = key; value = value; older = a.older } ∷ [])
+
+pub first_none : (lines : List Line) (filing : Filing) → filing.entries.items ≡ [] → IsLinked filing → HasFiledFirst lines filing
+first_none lines filing empty l = record { linked = l; filed = λ n m low is. absurd (omega (arith, low, ap length empty, numbered_within lines n m is)) }
+
+pub first_more : (lines : List Line) (number : ℕ) (line : Line) (a b : Filing) (key : ℕ) → 1 ≤ number → numbered lines number ≡ Some line → key ≡ clause_key line.stated.clause → HasFiledFirst lines a → length a.entries.items ≡ number - 1 → IsLinked b → IsAdded a.entries.items b.entries.items key number → HasFiledFirst lines b × (length b.entries.items ≡ number)
+first_more lines number line a b key some is k h long l added =
+    let whole : length b.entries.items ≡ number = omega (arith, added_length a.entries.items b.entries.items key number added, long, some) in (
+      record {
+        linked = l;
+        filed = λ n m low found. subst (λ es. IsFiled es (clause_key m.stated.clause) n) (sym added.last) (elim (cases_lt n number) [
+          | inl less ↦ filed_left a.entries.items _ (clause_key m.stated.clause) n (h.filed n m (omega (arith, less, long)) found)
+          | inr more ↦
+              let same : number ≡ n = omega (arith, low, more, whole) in
+              let line_is : line ≡ m = (let x : Some line ≡ Some m = sym is ∙ ap (numbered lines) same ∙ found in cc) in
+              (length a.entries.items + 1, _, numbered_last a.entries.items _, k ∙ ap (λ (x : Line). clause_key x.stated.clause) line_is, same)
+        ]);
+      },
+      whole,
+    )
+
+pub first_all : (lines : List Line) (filing : Filing) → length lines ≤ length filing.entries.items → length filing.entries.items ≤ length lines → HasFiledFirst lines filing → HasFiled lines filing
+first_all lines filing long few h = record { linked = h.linked; filed = λ n l is. h.filed n l (omega (arith, long, numbered_within lines n l is)) is; whole = omega (arith, long, few) }
+
+-- one more line was filed, as it was added to the ledger
+pub has_filed_more : (lines new : List Line) (line : Line) (a b : Filing) (key value : ℕ) → new ≡ lines ++ line ∷ [] → key ≡ clause_key line.stated.clause → value ≡ length new → HasFiled lines a → IsLinked b → IsAdded a.entries.items b.entries.items key value → HasFiled new b
+has_filed_more lines new line a b key value is k v h l added =
+    let long : length new ≡ length lines + 1 = ap length is ∙ length-append lines (line ∷ []) in
+    record {
+      linked = l;
+      filed = λ n m found. subst (λ es. IsFiled es (clause_key m.stated.clause) n) (sym added.last) (elim (numbered_snoc lines line n m (ap (λ ls. numbered ls n) (sym is) ∙ found)) [
+        | inl b ↦ filed_left a.entries.items _ (clause_key m.stated.clause) n (h.filed n m b.1)
+        | inr e ↦ (length a.entries.items + 1, _, numbered_last a.entries.items _, k ∙ ap (λ (x : Line). clause_key x.stated.clause) e.1, v ∙ long ∙ sym e.0)
+      ]);
+      whole = omega (arith, added_length a.entries.items b.entries.items key value added, h.whole, long);
+    }
+
+-- ---- looking for a subclause
+
+-- what was seen of the entries of the key, from the newest on
+pub record IsUnderWay (ls : Listing) (entries : List Entry) (key : ℕ) (c : Clause) (number : ℕ) : Type 0 where
+  pub within : number ≤ length entries
+  pub own : 0 < number → HasKey entries key number
+  pub none : HasNoSubclause ls entries key number c
+
+pub under_way_from : (ls : Listing) (filing : Filing) (key number : ℕ) (c : Clause) → IsLinked filing → number ≡ unwrap_or (get nat_eq filing.newest key) 0 → IsUnderWay ls filing.entries.items key c number
+under_way_from ls filing key number c l is =
+    let w : IsNewest filing.entries.items key (length filing.entries.items) number = subst (IsNewest filing.entries.items key (length filing.entries.items)) (sym is) (l.newest key) in
+    record {
+      within = w.within;
+      own = w.own;
+      none = λ y e m less at same on there. absurd (w.last y less (numbered_within filing.entries.items y e at).1 (e, at, same));
+    }
+
+pub under_way_more : (ls : Listing) (filing : Filing) (key number : ℕ) (e : Entry) (c : Clause) → IsLinked filing → numbered filing.entries.items number ≡ Some e → ((l : Line) → ls.lists e.value ≡ true → numbered ls.lines e.value ≡ Some l → is_subclause l.stated.clause c ≡ false) → IsUnderWay ls filing.entries.items key c number → IsUnderWay ls filing.entries.items key c e.older
+under_way_more ls filing key number e c l at not_here u =
+    let p = numbered_within filing.entries.items number e at in
+    let k = u.own p.0 in
+    let same : k.0 ≡ e = (let s : Some k.0 ≡ Some e = sym k.1 ∙ at in cc) in
+    let own_key : e.key ≡ key = ap (λ (f : Entry). f.key) (sym same) ∙ k.2 in
+    let w : IsNewest filing.entries.items key (number - 1) e.older = subst (λ k. IsNewest filing.entries.items k (number - 1) e.older) own_key (l.older number e at) in
+    record {
+      within = omega (arith, w.within, p.1);
+      own = w.own;
+      none = λ y f m less is of on there. elim (cases_lt number y) [
+        | inl after ↦ u.none y f m after is of on there
+        | inr before ↦ elim (cases_lt y number) [
+          | inl earlier ↦ absurd (w.last y less (omega (arith, earlier)) (f, is, of))
+          | inr here ↦
+              let eq : y ≡ number = omega (arith, before, here) in
+              let f_is : f ≡ e = (let s : Some f ≡ Some e = sym is ∙ ap (numbered filing.entries.items) eq ∙ at in cc) in
+              not_here m (subst (λ (f : Entry). ls.lists f.value ≡ true) f_is on) (subst (λ (f : Entry). numbered ls.lines f.value ≡ Some m) f_is there)
+        ]
+      ];
+    }
+
+pub older_below : (filing : Filing) (number : ℕ) (e : Entry) → IsLinked filing → numbered filing.entries.items number ≡ Some e → e.older < number
+older_below filing number e l at = omega (arith, (l.older number e at).within, numbered_within filing.entries.items number e at)
+
+pub under_way_ends : (ls : Listing) (entries : List Entry) (key number : ℕ) (c : Clause) → numbered entries number ≡ None → IsUnderWay ls entries key c number → HasNoSubclause ls entries key 0 c
+under_way_ends ls entries key zero c none u = u.none
+under_way_ends ls entries key (suc k) c none u =
+    let t = numbered_there entries (suc k) (omega arith) u.within in
+    absurd (let s : None ≡ Some t.0 = sym none ∙ t.1 in cc)
+
+pub have_more : (ls : Listing) (entries : List Entry) (side i : ℕ) (atoms : List Atom) (x : Atom) (q : ℕ) (c : Clause) → slice_get atoms i ≡ Some x → q ≡ key side x → HasNoSubclause ls entries q 0 c
+    → ((k : ℕ) (a : Atom) → k < i → slice_get atoms k ≡ Some a → HasNoSubclause ls entries (key side a) 0 c)
+    → (k : ℕ) (a : Atom) → k < i + 1 → slice_get atoms k ≡ Some a → HasNoSubclause ls entries (key side a) 0 c
+have_more ls entries side i atoms x q c here is none before k a less at = elim (cases_lt k i) [
+  | inl earlier ↦ before k a earlier at
+  | inr late ↦
+      let eq : k ≡ i = omega (arith, less, late) in
+      let a_is : x ≡ a = (let s : Some x ≡ Some a = sym here ∙ ap (slice_get atoms) (sym eq) ∙ at in cc) in
+      subst (λ k. HasNoSubclause ls entries k 0 c) (is ∙ ap (key side) a_is) none
+]
+
+-- ---- where no line is a subclause, no line states the clause
+
+at_first : (P : ℕ → Type 0) (s a c : List Atom) → P 0 → ((k : ℕ) (x : Atom) → slice_get s k ≡ Some x → P (key after_arrow x)) → ((k : ℕ) (x : Atom) → slice_get a k ≡ Some x → P (key before_arrow x)) → ((k : ℕ) (x : Atom) → slice_get c k ≡ Some x → P (key before_arrow x)) → P (first_key s a c)
+at_first P (x ∷ s) a c zero_is one two three = one 0 x refl
+at_first P [] (x ∷ a) c zero_is one two three = two 0 x refl
+at_first P [] [] (x ∷ c) zero_is one two three = three 0 x refl
+at_first P [] [] [] zero_is one two three = zero_is
+
+pub none_stated : (ls : Listing) (filing : Filing) (c : Clause) → HasFiled ls.lines filing → AreNoSubclauses ls filing.entries.items c → IsNew ls c
+none_stated ls filing c h none n l on is same =
+    let at_key : HasNoSubclause ls filing.entries.items (clause_key c) 0 c = at_first (λ k. HasNoSubclause ls filing.entries.items k 0 c) c.succedent c.antecedent c.constraint none.empty none.succedent none.antecedent none.constraint in
+    let f = h.filed n l is in
+    let not_in = at_key f.0 f.1 l (numbered_within filing.entries.items f.0 f.1 f.2).0 f.2 (f.3 ∙ ap clause_key same) (ap ls.lists f.4 ∙ on) (ap (numbered ls.lines) f.4 ∙ is) in
+    let within = equal_subclause l.stated.clause c same in
+    (let x : true ≡ false = sym within ∙ not_in in cc)
+
+pub matched : (A B C : Type 0) (b : Bool) → (B → C) → MatchBool b A B → MatchBool b A C
+matched A B C true f m = m
+matched A B C false f m = f m

@@ -1,0 +1,15 @@
+pub mod Lists
+pub mod PathLemmas
+pub mod OrderLemmas
+pub mod FilingLemmas
+pub mod PartnerLemmas
+pub mod CoverLemmas
+pub mod VainLemmas
+pub mod TreeLemmas
+pub mod LegalLemmas
+pub mod IndexLemmas
+pub mod EventLemmas
+pub mod ClosingLemmas
+pub mod SplitLemmas
+pub mod WorkLemmas
+pub mod RootLemmas

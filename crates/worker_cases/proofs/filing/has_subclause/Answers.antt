@@ -1,0 +1,17 @@
+use Rattle.worker_cases.specs.Working.{listing}
+use Rattle.std.proofs.Common.{subst}
+use Rattle.worker_cases.specs.Filing.{HaveNoSubclause, before_arrow, after_arrow}
+use Rattle.worker_cases.proofs.FilingLemmas.{matched}
+use Rattle.worker_cases.proofs.filing.has_subclause.Goals as goal
+
+pub returns : goal.returns
+returns c =
+    let ls = (listing c.args.table.now.setting c.args.table.now.past c.args.node) in
+    let entries = c.args.filing.now.entries.items in
+    let clause = c.args.clause.now in
+    matched _ _ _ c.is_subsumed_by-3.result (λ h. record {
+      empty = c.if-is_subsumed_at.ensures;
+      succedent = subst (λ atoms. HaveNoSubclause ls entries after_arrow atoms clause) c.as_slice.ensures c.if-is_subsumed_by.ensures;
+      antecedent = subst (λ atoms. HaveNoSubclause ls entries before_arrow atoms clause) c.as_slice-2.ensures c.if-is_subsumed_by-2.ensures;
+      constraint = subst (λ atoms. HaveNoSubclause ls entries before_arrow atoms clause) c.as_slice-3.ensures h;
+    }) c.is_subsumed_by-3.ensures

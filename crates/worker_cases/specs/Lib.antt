@@ -1,0 +1,4 @@
+pub mod Covering
+pub mod Filing
+pub mod Partners
+pub mod Working

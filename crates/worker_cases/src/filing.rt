@@ -1,0 +1,239 @@
+ghost use Rattle.std.specs.Prelude.{◌≡◌, ◌<◌, [], fold, map, Some, unwrap_or, nat_eq, OnOk, OnErr, MatchBool, true, false};
+ghost use Rattle.indexmap.specs.IndexMap.{get};
+ghost use Rattle.proof_steps.specs.declared.step.Line.{Line};
+ghost use Rattle.spl_truth.specs.Redundancy.{is_subclause};
+ghost use Rattle.proof_steps.specs.Steps.{numbered};
+ghost use Rattle.split_tree.specs.Journal.{ledger, nodes};
+ghost use Rattle.split_tree.specs.Facts.{listed};
+ghost use Rattle.worker_cases.specs.Covering.{IsSubsumed, IsNew};
+ghost use Rattle.worker_cases.specs.Filing.{mixed, term_hash, key, clause_key, IsLinked, IsAdded, HasFiled, HasNoSubclause, HaveNoSubclause, AreNoSubclauses};
+ghost use Rattle.worker_cases.specs.Working.{listing};
+
+use crate::ledger::line_at;
+use indexmap::IndexMap;
+use proof_steps::numbered;
+use spl_terms::{Atom, Clause, Items, Term};
+use spl_truth::is_subclause;
+use split_tree::Table;
+use std::alloc::{AllocError, Global};
+
+// ---- keys of atoms
+
+/// The side of atoms of the constraint and the antecedent.
+pub const BEFORE_ARROW: u64 = 3;
+
+/// The side of atoms of the succedent.
+pub const AFTER_ARROW: u64 = 4;
+
+/// The hash with another word added, by the multiplication of Fowler, Noll and Vo.
+fn mixed(hash: u64, word: u64) -> u64
+    ensures { result ≡ mixed hash word }
+{
+    hash.wrapping_mul(1_099_511_628_211).wrapping_add(word)
+}
+
+#[cycle(hash)]
+fn term_hash(term: &Term) -> u64
+    ensures { result ≡ term_hash term.now }
+{
+    match term {
+        Term::Var(v) => mixed(1, u64::from(*v)),
+        Term::App(f, args) => with_terms(mixed(2, u64::from(f.number)), args.as_slice()),
+    }
+}
+
+/// The hash with the hashes of the terms added.
+#[cycle(hash)]
+fn with_terms(hash: u64, terms: &[Term]) -> u64
+    ensures { result ≡ fold mixed hash (map term_hash terms.now) }
+{
+    let mut hash = hash;
+    for term in terms {
+        hash = mixed(hash, term_hash(term));
+    }
+    hash
+}
+
+/// The key of an atom of this side; equal atoms have one key.
+pub fn key(side: u64, atom: &Atom) -> u64
+    ensures { result ≡ key side atom.now }
+{
+    match atom {
+        Atom::Holds(p, args) => with_terms(mixed(side, u64::from(p.number)), args.as_slice()),
+        Atom::Equal(_, _) => side,
+    }
+}
+
+/// The key of the clause's first atom, where the succedent comes first; 0 for the empty clause.
+pub fn clause_key(clause: &Clause) -> u64
+    ensures { result ≡ clause_key clause.now }
+{
+    match clause.succedent.as_slice() {
+        [atom, ..] => key(AFTER_ARROW, atom),
+        [] => match clause.antecedent.as_slice() {
+            [atom, ..] => key(BEFORE_ARROW, atom),
+            [] => match clause.constraint.as_slice() {
+                [atom, ..] => key(BEFORE_ARROW, atom),
+                [] => 0,
+            },
+        },
+    }
+}
+
+// ---- entries
+
+/// A value that was filed.
+#[derive(Clone, Copy, Debug)]
+pub struct Entry {
+    /// The key under which it was filed.
+    pub key: u64,
+    /// What was filed.
+    pub value: u32,
+    /// The number of the entry of this key before this one, from 1; 0 where there is none.
+    pub older: u32,
+}
+
+/// Numbers filed under keys, to be read from the newest of a key to its oldest.
+#[derive(Debug, Drop)]
+pub struct Filing {
+    /// The number of the last entry of each key, from 1.
+    pub newest: IndexMap<u64, u32>,
+    /// The entries in order.
+    pub entries: Vec<Entry>,
+}
+
+impl Filing {
+    /// Nothing is filed; it takes no memory.
+    pub fn new(alloc: Global) -> Filing
+        ensures linked { IsLinked result }
+        ensures none { result.entries.items ≡ [] }
+    {
+        Filing {
+            newest: IndexMap::new(alloc),
+            entries: Vec::new(alloc),
+        }
+    }
+
+    /// The number of the last entry of the key, from 1; 0 where there is none.
+    pub fn newest(&self, key: u64) -> u32
+        ensures { result ≡ unwrap_or (get nat_eq self.now.newest key) 0 }
+    {
+        self.newest.get(&key).copied().unwrap_or(0)
+    }
+
+    /// Files the value under the key. There is no memory for more than 4,294,967,295 entries.
+    pub fn file(&mut self, key: u64, value: u32) -> Result<(), AllocError>
+        requires linked { IsLinked self.old }
+        ensures linked { IsLinked self.new }
+        ensures added { OnOk result (IsAdded self.old.entries.items self.new.entries.items key value) }
+        ensures same { OnErr result (self.new.entries.items ≡ self.old.entries.items) }
+    {
+        if self.entries.len() >= 4_294_967_295 {
+            return Err(AllocError);
+        }
+        self.entries.reserve(1)?;
+        let number = self.entries.len() as u32 + 1;
+        let older = self.newest.insert(key, number)?.unwrap_or(0);
+        self.entries.push_reserved(Entry { key, value, older });
+        Ok(())
+    }
+}
+
+// ---- lines that subsume a clause
+
+/// Whether the line with this number, from 1, is listed at the node and is a subclause of the clause.
+fn is_line_in(table: &Table, node: u32, number: u32, clause: &Clause) -> bool
+    requires { node < nodes table.now.past }
+    ensures { MatchBool result (IsSubsumed (listing table.now.setting table.now.past node) clause.now) ((l : Line) → listed table.now.setting table.now.past node number ≡ true → numbered (ledger table.now.setting table.now.past) number ≡ Some l → is_subclause l.stated.clause clause.now ≡ false) }
+{
+    match line_at(table, number) {
+        Some(line) => table.listed(node, number) && is_subclause(&line.stated.clause, clause),
+        None => false,
+    }
+}
+
+/// Whether a line that is filed under the key is a subclause of the clause.
+fn is_subsumed_at(table: &Table, node: u32, filing: &Filing, key: u64, clause: &Clause) -> bool
+    requires there { node < nodes table.now.past }
+    requires filed { HasFiled (ledger table.now.setting table.now.past) filing.now }
+    ensures { MatchBool result (IsSubsumed (listing table.now.setting table.now.past node) clause.now) (HasNoSubclause (listing table.now.setting table.now.past node) filing.now.entries.items key 0 clause.now) }
+{
+    let mut number = filing.newest(key);
+    while let Some(entry) = numbered(filing.entries.as_slice(), number) {
+        if is_line_in(table, node, entry.value, clause) {
+            return true;
+        }
+        number = entry.older;
+    }
+    false
+}
+
+/// Whether a line that is filed under the key of one of the atoms is a subclause of the clause.
+fn is_subsumed_by(
+    table: &Table,
+    node: u32,
+    filing: &Filing,
+    side: u64,
+    atoms: &[Atom],
+    clause: &Clause,
+) -> bool
+    requires there { node < nodes table.now.past }
+    requires filed { HasFiled (ledger table.now.setting table.now.past) filing.now }
+    ensures { MatchBool result (IsSubsumed (listing table.now.setting table.now.past node) clause.now) (HaveNoSubclause (listing table.now.setting table.now.past node) filing.now.entries.items side atoms.now clause.now) }
+{
+    for atom in atoms {
+        if is_subsumed_at(table, node, filing, key(side, atom), clause) {
+            return true;
+        }
+    }
+    false
+}
+
+/// Whether a line that is filed under the key of one of the clause's atoms, or as the empty clause, is a subclause of
+/// the clause.
+fn has_subclause(table: &Table, node: u32, filing: &Filing, clause: &Clause) -> bool
+    requires there { node < nodes table.now.past }
+    requires filed { HasFiled (ledger table.now.setting table.now.past) filing.now }
+    ensures { MatchBool result (IsSubsumed (listing table.now.setting table.now.past node) clause.now) (AreNoSubclauses (listing table.now.setting table.now.past node) filing.now.entries.items clause.now) }
+{
+    if is_subsumed_at(table, node, filing, 0, clause) {
+        return true;
+    }
+    if is_subsumed_by(
+        table,
+        node,
+        filing,
+        AFTER_ARROW,
+        clause.succedent.as_slice(),
+        clause,
+    ) {
+        return true;
+    }
+    if is_subsumed_by(
+        table,
+        node,
+        filing,
+        BEFORE_ARROW,
+        clause.antecedent.as_slice(),
+        clause,
+    ) {
+        return true;
+    }
+    is_subsumed_by(
+        table,
+        node,
+        filing,
+        BEFORE_ARROW,
+        clause.constraint.as_slice(),
+        clause,
+    )
+}
+
+/// Whether a line that is listed at the node is a subclause of the clause; where none is, none states it.
+pub fn is_subsumed(table: &Table, node: u32, filing: &Filing, clause: &Clause) -> bool
+    requires there { node < nodes table.now.past }
+    requires filed { HasFiled (ledger table.now.setting table.now.past) filing.now }
+    ensures { MatchBool result (IsSubsumed (listing table.now.setting table.now.past node) clause.now) (IsNew (listing table.now.setting table.now.past node) clause.now) }
+{
+    has_subclause(table, node, filing, clause)
+}
