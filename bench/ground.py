@@ -35,7 +35,8 @@ def main():
     for count, holes in ((4, 3), (5, 4), (7, 7)):
         row(f"{count} pigeons in {holes} holes", *pigeons(count, holes), [str(program), "prove"])
     row("5 pigeons in 4 holes, no splits", *pigeons(5, 4), [str(program), "prove", "--splits", "0"])
-    for rounds in ("300", "1000"):
+    row("6 pigeons in 5 holes, 5,000 splits", *pigeons(6, 5), [str(program), "prove", "--splits", "5000"])
+    for rounds in ("300", "1000", "10000"):
         title = f"500 random clauses of three literals, {rounds} rounds"
         row(title, *random_clauses(500, 100, 1), [str(program), "prove", "--rounds", rounds])
 

@@ -14,7 +14,7 @@ use Rattle.split_tree.specs.Journal.{Setting, input_lines, lines_of, nodes_of, n
 use Rattle.split_tree.specs.Paths.{stem, on_path}
 use Rattle.split_tree.specs.Facts.{lists, listed}
 use Rattle.split_tree.specs.Legal.{IsAsked, IsLegalJournal}
-use Rattle.split_tree.specs.Caches.{homes, homes_by, at_home, spots, spots_upto}
+use Rattle.split_tree.specs.Caches.{homes, homes_by, at_home, IsHome, spots, spots_upto}
 use Rattle.split_tree.proofs.Lists.{get_more, get_left, get_right, length-spots_upto, length-input_lines, get_copies}
 use Rattle.split_tree.proofs.Places.{steps_more, lists_new, stem_there, publish_there, one_line, in_input}
 use Rattle.split_tree.proofs.Climb.{or_absorb, on_path_within, on_path_grow, or_no}
@@ -31,11 +31,6 @@ listed_within s (e ∷ past) legal m i h =
     ]
 
 -- ---- homes
-
--- a home is a node
-abbrev pub IsHome : ℕ → Option ℕ → Type 0
-IsHome count None = Unit {0}
-IsHome count (Some node) = node < count
 
 at_home_grow : (past : List Entry) (e : Entry) (m : ℕ) (o : Option ℕ) → IsHome (nodes past) o → at_home (on_path past (stem e.event (nodes past) m)) o ≡ at_home (on_path (e ∷ past) m) o
 at_home_grow past e m None h = refl
@@ -61,7 +56,7 @@ right_new : (m count i size n k : ℕ) → i ≡ size + k + 2 → k + 2 ≤ n �
 right_new m count i size n k e h = grind (arith, nat_tests)
 
 -- what the event lists, by the homes that it adds
-new_housed : (s : Setting) (past : List Entry) (w : ℕ) (ev : Event) (m i k : ℕ) → IsLegalJournal s past → IsAsked s past w ev → m < nodes past + nodes_of ev
+pub new_housed : (s : Setting) (past : List Entry) (w : ℕ) (ev : Event) (m i k : ℕ) → IsLegalJournal s past → IsAsked s past w ev → m < nodes past + nodes_of ev
     → i ≡ steps s past + k + 1 → (o : Option ℕ) → slice_get (homes_by ev (nodes past)) k ≡ Some o
     → (lists ev (nodes past) (steps s past) (on_path past m) m i ≡ at_home (on_path (record { by = w; event = ev } ∷ past) m) o) × IsHome (nodes past + nodes_of ev) o
 new_housed s past w (Publish node chain put_off) m i k legal now there is o h =

@@ -1,6 +1,7 @@
 -- How long the lists are that a table keeps, and what a read of them tells.
 use Rattle.std.proofs.Common.{◌≡◌, ℕ, suc, ◌-◌, ◌<◌, ◌≤◌, ◌∙◌, Option, Some, ap, sym, length, reverse, refl, arith, vec_len, get_or}
 use Rattle.std.specs.List.{slice_get}
+use Rattle.std.proofs.lemmas.List.{length-reverse}
 use Rattle.std.proofs.lemmas.Option.{slice_get_read, slice_get_within, get_or_from_slice_get}
 use Rattle.spl_terms.specs.Clauses.{clause_symbols}
 use Rattle.proof_steps.specs.declared.step.Line.{Line}
@@ -17,8 +18,8 @@ use Rattle.split_tree.specs.declared.table.Table.TheInside.{Inside}
 use Rattle.split_tree.specs.declared.caches.Seat.{Seat}
 use Rattle.split_tree.specs.declared.caches.NodeState.{NodeState}
 use Rattle.split_tree.specs.Fields.{setting_of, IsTable}
-use Rattle.split_tree.specs.Caches.{past_of, at_home, retired, first_node}
-use Rattle.split_tree.proofs.Lists.{length-input_lines, length-firsts_upto, firsts_at, length-weights, weights_at, numbered_get}
+use Rattle.split_tree.specs.Caches.{past_of, at_home, IsHome, homes, own_empty, retired, newest}
+use Rattle.split_tree.proofs.Lists.{length-input_lines, length-upto, upto_at, length-weights, weights_at, numbered_get}
 use Rattle.split_tree.proofs.Past.{length-branches, length-homes, reverse-past_of}
 use Rattle.split_tree.proofs.States.{length-states, length-seats, seat_at, seat_of, state_at, state_of}
 
@@ -34,8 +35,14 @@ states_len t ok = omega (arith, t.states.ok.0, ap length ok.states_are, length-s
 pub seats_len : (t : Inside) → IsTable t → vec_len t.seats ≡ t.workers
 seats_len t ok = omega (arith, t.seats.ok.0, ap length ok.seats_are, length-seats t.workers (past_of t.journal.items))
 
-pub firsts_len : (t : Inside) → IsTable t → vec_len t.firsts ≡ steps (setting_of t) (past_of t.journal.items)
-firsts_len t ok = omega (arith, t.firsts.ok.0, ap length ok.firsts_are, length-firsts_upto (steps (setting_of t) (past_of t.journal.items)) (retired (past_of t.journal.items)))
+pub empties_len : (t : Inside) → IsTable t → vec_len t.empties ≡ nodes (past_of t.journal.items)
+empties_len t ok = omega (arith, t.empties.ok.0, ap length ok.empties_are, length-upto (λ node. own_empty node 1 (homes (setting_of t) (past_of t.journal.items)) (ledger (setting_of t) (past_of t.journal.items))) (nodes (past_of t.journal.items)))
+
+pub newest_len : (t : Inside) → IsTable t → vec_len t.newest ≡ steps (setting_of t) (past_of t.journal.items)
+newest_len t ok = omega (arith, t.newest.ok.0, ap length ok.newest_are, length-upto (λ k. newest (suc k) (retired (past_of t.journal.items))) (steps (setting_of t) (past_of t.journal.items)))
+
+pub retired_len : (t : Inside) → IsTable t → vec_len t.retired ≡ length (retired (past_of t.journal.items))
+retired_len t ok = omega (arith, t.retired.ok.0, ap length ok.retired_are, length-reverse (retired (past_of t.journal.items)))
 
 -- the seat that is read
 pub read_seat : (t : Inside) → IsTable t → (w : ℕ) (x : Seat) → 1 ≤ w → w ≤ t.workers → x ≡ get_or t.seats.items (w - 1) x → seat_of (past_of t.journal.items) w ≡ x
@@ -62,11 +69,19 @@ read_branch t ok m x there read =
 
 -- the home that is read
 pub read_home : (t : Inside) → IsTable t → (m i : ℕ) (o : Option ℕ) → m < nodes (past_of t.journal.items) → 1 ≤ i → i ≤ steps (setting_of t) (past_of t.journal.items) → o ≡ get_or t.homes.items (i - 1) o
-    → listed (setting_of t) (past_of t.journal.items) m i ≡ at_home (on_path (past_of t.journal.items) m) o
+    → (listed (setting_of t) (past_of t.journal.items) m i ≡ at_home (on_path (past_of t.journal.items) m) o) × IsHome (nodes (past_of t.journal.items)) o
 read_home t ok m i o there some in_range read =
     let long = homes_len t ok in
     let got = slice_get_read t.homes.items (length t.homes.items) (i - 1) o refl (omega (arith, t.homes.ok.0)) read in
-    (housed (setting_of t) (past_of t.journal.items) ok.legal m i there some o (ap (λ xs. slice_get xs (i - 1)) (sym ok.homes_are) ∙ got)).0
+    housed (setting_of t) (past_of t.journal.items) ok.legal m i there some o (ap (λ xs. slice_get xs (i - 1)) (sym ok.homes_are) ∙ got)
+
+-- the first empty clause of the node, as it is read
+pub read_empty : (t : Inside) → IsTable t → (m : ℕ) (o : Option ℕ) → m < nodes (past_of t.journal.items) → o ≡ get_or t.empties.items m o → own_empty m 1 (homes (setting_of t) (past_of t.journal.items)) (ledger (setting_of t) (past_of t.journal.items)) ≡ o
+read_empty t ok m o there read =
+    let f = λ (node : ℕ). own_empty node 1 (homes (setting_of t) (past_of t.journal.items)) (ledger (setting_of t) (past_of t.journal.items)) in
+    let got = slice_get_read t.empties.items (length t.empties.items) m o refl (omega (arith, t.empties.ok.0, empties_len t ok)) read in
+    let same : Some (f m) ≡ Some o = sym (upto_at f (nodes (past_of t.journal.items)) m there) ∙ (ap (λ xs. slice_get xs m) (sym ok.empties_are) ∙ got) in
+    cc
 
 -- the spot that is read
 pub read_spot : (t : Inside) → IsTable t → (k : ℕ) (p : Spot) → k < vec_len t.spots → p ≡ get_or t.spots.items k p → Spotted (setting_of t) (past_of t.journal.items) k p
@@ -85,17 +100,17 @@ spot_within t k p r =
     let b = slice_get_within (reverse (past_of t.journal.items)) p.event r.entry r.is in
     omega (arith, t.journal.ok.0, ap length (reverse-past_of t.journal.items))
 
--- what is read of where the clause was first activated or split
-pub read_first : (t : Inside) → IsTable t → (i : ℕ) (o : Option ℕ) → 1 ≤ i → i ≤ steps (setting_of t) (past_of t.journal.items) → o ≡ get_or t.firsts.items (i - 1) o → first_node i (retired (past_of t.journal.items)) ≡ o
-read_first t ok i o some there read =
+-- the place of the clause's last record, as it is read
+pub read_newest : (t : Inside) → IsTable t → (i : ℕ) (o : Option ℕ) → 1 ≤ i → i ≤ steps (setting_of t) (past_of t.journal.items) → o ≡ get_or t.newest.items (i - 1) o → newest i (retired (past_of t.journal.items)) ≡ o
+read_newest t ok i o some there read =
     let p = past_of t.journal.items in
     let n = steps (setting_of t) p in
-    let got = slice_get_read t.firsts.items (length t.firsts.items) (i - 1) o refl (omega (arith, t.firsts.ok.0, firsts_len t ok)) read in
-    let at = firsts_at n (i - 1) (retired p) (omega arith) in
+    let got = slice_get_read t.newest.items (length t.newest.items) (i - 1) o refl (omega (arith, t.newest.ok.0, newest_len t ok)) read in
+    let at = upto_at (λ k. newest (suc k) (retired p)) n (i - 1) (omega arith) in
     let z : suc (i - 1) ≡ i = omega arith in
-    let same : Some (first_node (suc (i - 1)) (retired p)) ≡ Some o = sym at ∙ (ap (λ xs. slice_get xs (i - 1)) (sym ok.firsts_are) ∙ got) in
-    let q : first_node (suc (i - 1)) (retired p) ≡ o = cc in
-    ap (λ j. first_node j (retired p)) (sym z) ∙ q
+    let same : Some (newest (suc (i - 1)) (retired p)) ≡ Some o = sym at ∙ (ap (λ xs. slice_get xs (i - 1)) (sym ok.newest_are) ∙ got) in
+    let q : newest (suc (i - 1)) (retired p) ≡ o = cc in
+    ap (λ j. newest j (retired p)) (sym z) ∙ q
 
 -- the size that is read
 pub read_weight : (t : Inside) → IsTable t → (i w : ℕ) (l : Line) → 1 ≤ i → i ≤ steps (setting_of t) (past_of t.journal.items) → numbered (ledger (setting_of t) (past_of t.journal.items)) i ≡ Some l → w ≡ get_or t.weights.items (i - 1) w → w ≡ clause_symbols l.stated.clause

@@ -15,6 +15,7 @@ pub mod Examples
 pub mod Leaves
 pub mod Lens
 pub mod Standing
+pub mod Empties
 pub mod Depends
 pub mod Closed
 pub mod Ended

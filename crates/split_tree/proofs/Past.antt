@@ -9,9 +9,8 @@ use Rattle.split_tree.specs.declared.event.Event.TheVariants.{Publish, Split}
 use Rattle.split_tree.specs.Journal.{Setting, lines_of, nodes_of, nodes, splits_of, steps, ledger}
 use Rattle.split_tree.specs.Facts.{has_stopped, is_stop, waiting, cost_of}
 use Rattle.split_tree.specs.Legal.{IsLegalJournal}
-use Rattle.split_tree.specs.Caches.{past_of, branches, branches_by, homes, homes_by, HasLines, spots, spots_upto, states, states_by, seats, seat_by, empties}
+use Rattle.split_tree.specs.Caches.{past_of, branches, branches_by, homes, homes_by, HasLines, spots, spots_upto, states, states_by, seats, seat_by}
 use Rattle.proof_steps.specs.Spots.{changed_at}
-use Rattle.split_tree.proofs.Lists.{empties-append}
 use Rattle.split_tree.proofs.Places.{steps_more, HasLines-legal}
 
 pub past_of-push : (xs : List Entry) (e : Entry) → past_of (xs ++ e ∷ []) ≡ e ∷ past_of xs
@@ -51,9 +50,6 @@ states-push e past = refl
 pub seats-push : (workers : ℕ) (e : Entry) (past : List Entry) → seats workers (e ∷ past) ≡ changed_at (e.by - 1) (seat_by e.event) (seats workers past)
 unfolding seats
 seats-push workers e past = refl
-
-pub empties-push : (s : Setting) (e : Entry) (past : List Entry) → empties 1 (ledger s (e ∷ past)) ≡ empties 1 (ledger s past) ++ empties (1 + steps s past) (lines_of e.event)
-empties-push s e past = empties-append 1 (ledger s past) (lines_of e.event)
 
 -- ---- lengths
 

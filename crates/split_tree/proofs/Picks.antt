@@ -1,7 +1,8 @@
 -- What is picked is passive, so what is chosen is a clause of the ledger; where clauses were activated or split.
 use Rattle.std.specs.Prelude.{fold}
-use Rattle.std.proofs.Common.{◌≡◌, ℕ, zero, suc, ◌+◌, ◌-◌, ◌≤◌, ◌⊎◌, inl, inr, Bool, true, false, cond, not, ◌&&◌, eqb, List, [], ◌∷◌, ◌++◌, length, replicate, Option, Some, None, option_map, refl, sym, ◌∙◌, ap, arith, subst}
-use Rattle.std.proofs.lemmas.Bool.{and_parts, cases_Bool, cond-true, cond-false, cases_lt}
+use Rattle.std.proofs.Common.{◌≡◌, ℕ, zero, suc, ◌+◌, ◌≤◌, ◌⊎◌, inl, inr, Bool, true, false, cond, not, ◌&&◌, eqb, List, [], ◌∷◌, ◌++◌, length, replicate, reverse, Option, Some, None, option_map, refl, sym, ◌∙◌, ap, arith, subst}
+use Rattle.std.proofs.lemmas.Bool.{and_parts, cases_Bool, cond-true, cond-false}
+use Rattle.std.proofs.lemmas.List.{reverse-append}
 use Rattle.std.specs.List.{slice_get}
 use Rattle.spl_terms.specs.Clauses.{clause_symbols}
 use Rattle.spl_truth.specs.declared.picking.Candidate.{Candidate}
@@ -16,8 +17,8 @@ use Rattle.split_tree.specs.Paths.{subject, first_number}
 use Rattle.split_tree.specs.Facts.{cost_of, listed, worked, split, chosen, chosen_by}
 use Rattle.split_tree.specs.Picking.{is_passive, passing, passive, pick_at, choices, weighed}
 use Rattle.split_tree.specs.Legal.{IsAsked, IsLegalJournal, IsSplittable, assume}
-use Rattle.split_tree.specs.Caches.{retired, retired_by, pushed, IsNumbered, AreSmall, noted, firsts_upto}
-use Rattle.split_tree.proofs.Lists.{AreNumbered, get_left, get_right, firsts-note, firsts-more}
+use Rattle.split_tree.specs.Caches.{retired, retired_at, retired_by, pushed, with_newest, IsNumbered, AreSmall, noted, newest_upto}
+use Rattle.split_tree.proofs.Lists.{AreNumbered, newest-note, newest-more}
 use Rattle.split_tree.proofs.Places.{steps_more}
 use Rattle.split_tree.proofs.Homes.{listed_within}
 
@@ -102,42 +103,42 @@ subject_is s past w node (l ∷ ls) put_off p =
     let q : l.step ≡ assume p.clause 1 None = cc in
     ap (λ t. first_number t.parents) q
 
-activated_clause : (s : Setting) (past : List Entry) (node : ℕ) (o : Option ℕ) → ((i : ℕ) → o ≡ Some i → IsClause s past i) → IsNumbered (option_map (λ i. record { clause = i; node = node }) o) (steps s past)
-activated_clause s past node None h = tt
-activated_clause s past node (Some i) h = h i refl
+activated_clause : (s : Setting) (past : List Entry) (rs : List Retired) (node : ℕ) (o : Option ℕ) → ((i : ℕ) → o ≡ Some i → IsClause s past i) → IsNumbered (option_map (λ i. retired_at i node rs) o) (steps s past)
+activated_clause s past rs node None h = tt
+activated_clause s past rs node (Some i) h = h i refl
 
 -- what an event activates or splits is a clause
-pub retired_clause : (s : Setting) (past : List Entry) → IsLegalJournal s past → (w : ℕ) (ev : Event) → IsAsked s past w ev → IsNumbered (retired_by ev (chosen past)) (steps s past)
-retired_clause s past legal w (Activate node) p = activated_clause s past node (chosen past node) (λ i e. chosen_within s past legal node i e)
-retired_clause s past legal w (Split node lines put_off) p =
+pub retired_clause : (s : Setting) (past : List Entry) → IsLegalJournal s past → (w : ℕ) (ev : Event) (rs : List Retired) → IsAsked s past w ev → IsNumbered (retired_by ev (chosen past) rs) (steps s past)
+retired_clause s past legal w (Activate node) rs p = activated_clause s past rs node (chosen past node) (λ i e. chosen_within s past legal node i e)
+retired_clause s past legal w (Split node lines put_off) rs p =
     subst (IsClause s past) (sym (subject_is s past w node lines put_off p.asked)) (chosen_within s past legal node p.asked.clause p.asked.chosen)
-retired_clause s past legal w _ p = tt
+retired_clause s past legal w _ rs p = tt
 
 -- ---- all that was activated or split
 
-numbered_push : (n m : ℕ) (rs : List Retired) (o : Option Retired) → n ≤ m → AreNumbered n rs → IsNumbered o n → AreNumbered m (pushed rs o)
-numbered_push n m rs None le each h k r got = let b = each k r got in (b.0, omega (arith, b.1))
-numbered_push n m rs (Some x) le each h k r got = elim (cases_lt k (length rs)) [
-  | inl low ↦ let b = each k r (sym (get_left rs (x ∷ []) k low) ∙ got) in (b.0, omega (arith, b.1))
-  | inr high ↦
-      let at : k ≡ length rs + (k - length rs) = omega arith in
-      let e = sym (ap (slice_get (rs ++ x ∷ [])) at ∙ get_right rs (x ∷ []) (k - length rs)) ∙ got in
-      let q = last_one x (k - length rs) r e in
-      (omega (arith, h.0, ap (λ y. y.clause) q), omega (arith, h.1, ap (λ y. y.clause) q))
-]
-  where
-    last_one : (x : Retired) (j : ℕ) (r : Retired) → slice_get (x ∷ []) j ≡ Some r → x ≡ r
-    last_one x zero r h = cc
-    last_one x (suc j) r h = cc
+numbered_more : (n m : ℕ) (rs : List Retired) → n ≤ m → AreNumbered n rs → AreNumbered m rs
+numbered_more n m [] le each = tt
+numbered_more n m (r ∷ rs) le each = let b = each.0.1 in ((each.0.0, omega arith), numbered_more n m rs le each.1)
+
+numbered_newest : (n : ℕ) (rs : List Retired) (o : Option Retired) → AreNumbered n rs → IsNumbered o n → AreNumbered n (with_newest o rs)
+numbered_newest n rs None each h = each
+numbered_newest n rs (Some r) each h = (h, each)
 
 pub retired_numbered : (s : Setting) (past : List Entry) → IsLegalJournal s past → AreNumbered (steps s past) (retired past)
 unfolding retired
-retired_numbered s [] legal k r h = cc
-retired_numbered s (e ∷ past) legal k r h = numbered_push (steps s past) (steps s (e ∷ past)) (retired past) (retired_by e.event (chosen past)) (omega (arith, steps_more s past e)) (λ j x g. retired_numbered s past legal.1 j x g) (retired_clause s past legal.1 e.by e.event legal.0.asked) k r h
+retired_numbered s [] legal = tt
+retired_numbered s (e ∷ past) legal =
+    let o = retired_by e.event (chosen past) (retired past) in
+    numbered_more (steps s past) (steps s (e ∷ past)) (with_newest o (retired past)) (omega (arith, steps_more s past e))
+    (numbered_newest (steps s past) (retired past) o (retired_numbered s past legal.1) (retired_clause s past legal.1 e.by e.event (retired past) legal.0.asked))
 
-pub retired-push : (e : Entry) (past : List Entry) → retired (e ∷ past) ≡ pushed (retired past) (retired_by e.event (chosen past))
+reverse_newest : (o : Option Retired) (rs : List Retired) → reverse (with_newest o rs) ≡ pushed (reverse rs) o
+reverse_newest None rs = refl
+reverse_newest (Some r) rs = reverse-append (r ∷ []) rs
+
+pub retired-push : (e : Entry) (past : List Entry) → reverse (retired (e ∷ past)) ≡ pushed (reverse (retired past)) (retired_by e.event (chosen past) (retired past))
 unfolding retired
-retired-push e past = refl
+retired-push e past = reverse_newest (retired_by e.event (chosen past) (retired past)) (retired past)
 
 -- ---- small clauses
 
@@ -150,18 +151,26 @@ small_lines s past w (Publish node chain put_off) p = subst AreSmall (sym p.aske
 small_lines s past w (Split node lines put_off) p = λ k l h. (p.asked.concluded k l h).1
 small_lines s past w _ p = λ k l h. cc
 
-activated_cost : (node : ℕ) (o : Option ℕ) → length (pushed [] (option_map (λ i. let r : Retired = record { clause = i; node = node } in r) o)) ≤ 1
-activated_cost node None = omega arith
-activated_cost node (Some i) = omega arith
+activated_cost : (node : ℕ) (rs : List Retired) (o : Option ℕ) → length (pushed [] (option_map (λ i. retired_at i node rs) o)) ≤ 1
+activated_cost node rs None = omega arith
+activated_cost node rs (Some i) = omega arith
 
-pub retired_cost : (past : List Entry) (w : ℕ) (ev : Event) (at : ℕ → Option ℕ) → length (pushed [] (retired_by ev at)) ≤ cost_of past w ev
-retired_cost past w (Activate node) at = activated_cost node (at node)
-retired_cost past w (Split node lines put_off) at = omega arith
-retired_cost past w _ at = omega arith
+pub retired_cost : (past : List Entry) (w : ℕ) (ev : Event) (at : ℕ → Option ℕ) (rs : List Retired) → length (pushed [] (retired_by ev at rs)) ≤ cost_of past w ev
+retired_cost past w (Activate node) at rs = activated_cost node rs (at node)
+retired_cost past w (Split node lines put_off) at rs = omega arith
+retired_cost past w _ at rs = omega arith
 
--- where clauses were first activated or split, after an event
-pub firsts_after : (n m : ℕ) (rs : List Retired) (o : Option Retired) → AreNumbered n rs → IsNumbered o n → noted o (firsts_upto n rs) ++ replicate m None ≡ firsts_upto (n + m) (pushed rs o)
-firsts_after n m rs None each h = sym (firsts-more n m rs each)
-firsts_after n m rs (Some r) each h =
-    let all = numbered_push n n rs (Some r) (omega arith) each h in
-    ap (λ xs. xs ++ replicate {A = Option ℕ} m None) (firsts-note n rs r h.0) ∙ sym (firsts-more n m (rs ++ r ∷ []) all)
+newest_noted : (n m : ℕ) (rs : List Retired) (o : Option Retired) → AreNumbered n rs → IsNumbered o n → noted o (length rs) (newest_upto n rs) ++ replicate m None ≡ newest_upto (n + m) (with_newest o rs)
+newest_noted n m rs None each h = sym (newest-more n m rs each)
+newest_noted n m rs (Some r) each h =
+    ap (λ xs. xs ++ replicate {A = Option ℕ} m None) (newest-note n rs r h.0) ∙ sym (newest-more n m (r ∷ rs) (h, each))
+
+-- the places of the last records after an event
+pub newest_after : (s : Setting) (past : List Entry) → IsLegalJournal s past → (e : Entry) → IsAsked s past e.by e.event
+    → noted (retired_by e.event (chosen past) (retired past)) (length (retired past)) (newest_upto (steps s past) (retired past)) ++ replicate (length (lines_of e.event)) None ≡ newest_upto (steps s (e ∷ past)) (retired (e ∷ past))
+unfolding retired
+newest_after s past legal e asked =
+    let rs = retired past in
+    let o = retired_by e.event (chosen past) rs in
+    newest_noted (steps s past) (length (lines_of e.event)) rs o (retired_numbered s past legal) (retired_clause s past legal e.by e.event rs asked)
+    ∙ ap (λ n. newest_upto n (with_newest o rs)) (sym (steps_more s past e))

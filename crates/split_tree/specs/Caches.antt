@@ -1,5 +1,5 @@
 -- What a table keeps beside its journal, computed from the journal.
-use Rattle.std.specs.Prelude.{◌≡◌, ℕ, zero, suc, ◌+◌, ◌-◌, ◌<◌, ◌≤◌, ◌^◌, Bool, true, false, ◌||◌, ◌==◌, List, [], ◌∷◌, ◌++◌, length, map, option_map, reverse, replicate, Option, Some, None, slice_get, if◌then◌else◌}
+use Rattle.std.specs.Prelude.{◌≡◌, ℕ, zero, suc, ◌+◌, ◌-◌, ◌<◌, ◌≤◌, ◌^◌, min, Bool, true, false, ◌&&◌, ◌||◌, ◌==◌, List, [], ◌∷◌, ◌++◌, length, map, option_map, reverse, replicate, Option, Some, None, slice_get, if◌then◌else◌}
 use Rattle.spl_terms.specs.Clauses.{is_empty, clause_symbols}
 use Rattle.proof_steps.specs.declared.step.Line.{Line}
 use Rattle.proof_steps.specs.Spots.{changed_at}
@@ -14,7 +14,7 @@ use Rattle.split_tree.specs.declared.caches.Seat.{Seat}
 use Rattle.split_tree.specs.declared.caches.Tally.{Tally}
 use Rattle.split_tree.specs.Journal.{Setting, nodes, lines_of, count_of, choices_of, splits_of, counted, rounds, splits}
 use Rattle.split_tree.specs.Paths.{branch_to, subject}
-use Rattle.split_tree.specs.Facts.{chosen, claimed_by, is_stop}
+use Rattle.split_tree.specs.Facts.{chosen, claimed_by, is_stop, is_number}
 use Rattle.split_tree.specs.Ending.{end_by, first_end, or_else}
 
 -- the entries of a journal, the newest first
@@ -64,12 +64,51 @@ unfoldable pub spots : List Entry → List Spot
 spots [] = []
 spots (e ∷ past) = spots past ++ spots_upto (length past) (length (lines_of e.event))
 
--- ---- the numbers of the empty clauses
+-- ---- for each node the first empty clause that stands there
 
--- of those lines that state the empty clause, where the first line has the number n
-abbrev pub empties : ℕ → List Line → List ℕ
-empties n [] = []
-empties n (l ∷ ls) = if is_empty l.stated.clause then n ∷ empties (n + 1) ls else empties (n + 1) ls
+-- the values of f at the first n numbers, from 0
+abbrev pub upto : {A : Type 0} → (ℕ → A) → ℕ → List A
+upto f zero = []
+upto f (suc n) = upto f n ++ f n ∷ []
+
+-- the first number of a line that states the empty clause and has the node for its home, where the first line has the number n
+abbrev pub own_empty : ℕ → ℕ → List (Option ℕ) → List Line → Option ℕ
+own_empty node n [] ls = None
+own_empty node n (h ∷ hs) [] = None
+own_empty node n (h ∷ hs) (l ∷ ls) = if is_number h node && is_empty l.stated.clause then Some n else own_empty node (n + 1) hs ls
+
+-- for the first m nodes
+abbrev pub empties : ℕ → List (Option ℕ) → List Line → List (Option ℕ)
+empties m hs ls = upto (λ node. own_empty node 1 hs ls) m
+
+abbrev pub or_first : ℕ → Option ℕ → Option ℕ
+or_first n (Some first) = Some first
+or_first n None = Some n
+
+-- with a line of this home and number
+abbrev pub noted_empty : Option ℕ → Line → ℕ → List (Option ℕ) → List (Option ℕ)
+noted_empty None l n xs = xs
+noted_empty (Some node) l n xs = if is_empty l.stated.clause then changed_at node (or_first n) xs else xs
+
+-- with lines of these homes, of which the first has the number n
+abbrev pub noted_empties : List (Option ℕ) → List Line → ℕ → List (Option ℕ) → List (Option ℕ)
+noted_empties [] ls n xs = xs
+noted_empties (h ∷ hs) [] n xs = xs
+noted_empties (h ∷ hs) (l ∷ ls) n xs = noted_empties hs ls (n + 1) (noted_empty h l n xs)
+
+-- a home is one of so many nodes
+abbrev pub IsHome : ℕ → Option ℕ → Type 0
+IsHome count None = Unit {0}
+IsHome count (Some node) = node < count
+
+abbrev pub AreHomes : ℕ → List (Option ℕ) → Type 0
+AreHomes count hs = (k : ℕ) (o : Option ℕ) → slice_get hs k ≡ Some o → IsHome count o
+
+-- the smaller one of two numbers, as far as there are some
+abbrev pub smaller : Option ℕ → Option ℕ → Option ℕ
+smaller None o = o
+smaller (Some a) None = Some a
+smaller (Some a) (Some b) = Some (min a b)
 
 -- ---- for each node what is known of it
 
@@ -144,38 +183,44 @@ AreSmall lines = (k : ℕ) (l : Line) → slice_get lines k ≡ Some l → claus
 
 -- ---- clauses that were activated or split
 
--- the clause that the event activates or splits, with the node, where `at n` is what was chosen at n
-abbrev pub retired_by : Event → (ℕ → Option ℕ) → Option Retired
-retired_by (Activate node) at = option_map (λ i. record { clause = i; node = node }) (at node)
-retired_by (Split node lines put_off) at = Some (record { clause = subject lines; node = node })
-retired_by _ at = None
+-- the place of the last record of clause i, where the last of all records stands first
+abbrev pub newest : ℕ → List Retired → Option ℕ
+newest i [] = None
+newest i (r ∷ rs) = if r.clause == i then Some (length rs) else newest i rs
+
+-- the record of the clause and the node after these
+abbrev pub retired_at : ℕ → ℕ → List Retired → Retired
+retired_at clause node rs = record { clause = clause; node = node; older = newest clause rs }
+
+-- the record of the clause that the event activates or splits, after these, where `at n` is what was chosen at n
+abbrev pub retired_by : Event → (ℕ → Option ℕ) → List Retired → Option Retired
+retired_by (Activate node) at rs = option_map (λ i. retired_at i node rs) (at node)
+retired_by (Split node lines put_off) at rs = Some (retired_at (subject lines) node rs)
+retired_by _ at rs = None
 
 abbrev pub pushed : {A : Type 0} → List A → Option A → List A
 pushed xs None = xs
 pushed xs (Some x) = xs ++ x ∷ []
 
+abbrev pub with_newest : Option Retired → List Retired → List Retired
+with_newest None rs = rs
+with_newest (Some r) rs = r ∷ rs
+
+-- the last record first
 unfoldable pub retired : List Entry → List Retired
 retired [] = []
-retired (e ∷ past) = pushed (retired past) (retired_by e.event (chosen past))
+retired (e ∷ past) = with_newest (retired_by e.event (chosen past) (retired past)) (retired past)
 
--- ---- for each clause number the node where the clause was first activated or split
-
-abbrev pub first_node : ℕ → List Retired → Option ℕ
-first_node i [] = None
-first_node i (r ∷ rs) = if r.clause == i then Some r.node else first_node i rs
+-- ---- for each clause number the place of the clause's last record
 
 -- for the first n numbers
-abbrev pub firsts_upto : ℕ → List Retired → List (Option ℕ)
-firsts_upto zero rs = []
-firsts_upto (suc n) rs = firsts_upto n rs ++ first_node (suc n) rs ∷ []
+abbrev pub newest_upto : ℕ → List Retired → List (Option ℕ)
+newest_upto n rs = upto (λ k. newest (suc k) rs) n
 
-abbrev pub or_first : ℕ → Option ℕ → Option ℕ
-or_first node (Some first) = Some first
-or_first node None = Some node
-
-abbrev pub noted : Option Retired → List (Option ℕ) → List (Option ℕ)
-noted None xs = xs
-noted (Some r) xs = changed_at (r.clause - 1) (or_first r.node) xs
+-- the record is put in the place
+abbrev pub noted : Option Retired → ℕ → List (Option ℕ) → List (Option ℕ)
+noted None place xs = xs
+noted (Some r) place xs = changed_at (r.clause - 1) (λ o. Some place) xs
 
 -- the clause has one of so many numbers
 abbrev pub IsNumbered : Option Retired → ℕ → Type 0

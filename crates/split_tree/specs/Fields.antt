@@ -1,12 +1,12 @@
 -- What is true of the fields of a table.
-use Rattle.std.specs.Prelude.{◌≡◌, ◌+◌, ◌*◌, ◌<◌, ◌≤◌, ◌^◌, vec_len, vec_capacity}
+use Rattle.std.specs.Prelude.{◌≡◌, ◌+◌, ◌*◌, ◌<◌, ◌≤◌, ◌^◌, reverse, vec_len, vec_capacity}
 use Rattle.split_tree.specs.Journal.{Setting, IsSmall, ledger, input_lines, nodes, steps}
 use Rattle.split_tree.specs.Paths.{leaves}
 use Rattle.split_tree.specs.Facts.{waiting}
 use Rattle.split_tree.specs.Ending.{has_empty}
 use Rattle.split_tree.specs.Legal.{IsLegalJournal}
 use Rattle.split_tree.specs.declared.table.Table.TheInside.{Inside}
-use Rattle.split_tree.specs.Caches.{past_of, branches, homes, spots, empties, weights, AreSmall, retired, firsts_upto, states, seats, tally}
+use Rattle.split_tree.specs.Caches.{past_of, branches, homes, spots, empties, weights, AreSmall, retired, newest_upto, states, seats, tally}
 
 abbrev pub setting_of : Inside → Setting
 setting_of t = record { input = t.input; limits = t.limits; workers = t.workers }
@@ -19,10 +19,10 @@ pub record IsTable (t : Inside) : Type 0 where
   pub branches_are : t.branches.items ≡ branches (past_of t.journal.items)
   pub homes_are : t.homes.items ≡ homes (setting_of t) (past_of t.journal.items)
   pub spots_are : t.spots.items ≡ spots (past_of t.journal.items)
-  pub empties_are : t.empties.items ≡ empties 1 (ledger (setting_of t) (past_of t.journal.items))
+  pub empties_are : t.empties.items ≡ empties (nodes (past_of t.journal.items)) (homes (setting_of t) (past_of t.journal.items)) (ledger (setting_of t) (past_of t.journal.items))
   pub weights_are : t.weights.items ≡ weights (ledger (setting_of t) (past_of t.journal.items))
-  pub retired_are : t.retired.items ≡ retired (past_of t.journal.items)
-  pub firsts_are : t.firsts.items ≡ firsts_upto (steps (setting_of t) (past_of t.journal.items)) (retired (past_of t.journal.items))
+  pub retired_are : t.retired.items ≡ reverse (retired (past_of t.journal.items))
+  pub newest_are : t.newest.items ≡ newest_upto (steps (setting_of t) (past_of t.journal.items)) (retired (past_of t.journal.items))
   pub states_are : t.states.items ≡ states (past_of t.journal.items)
   pub seats_are : t.seats.items ≡ seats t.workers (past_of t.journal.items)
   pub leaves_are : t.leaves.items ≡ leaves (past_of t.journal.items)
@@ -38,7 +38,7 @@ pub record IsTable (t : Inside) : Type 0 where
   pub leaves_room : vec_len t.leaves + t.spare_events ≤ vec_capacity t.leaves
   pub homes_room : vec_len t.homes + t.spare_steps ≤ vec_capacity t.homes
   pub spots_room : vec_len t.spots + t.spare_steps ≤ vec_capacity t.spots
-  pub empties_room : vec_len t.empties + t.spare_steps ≤ vec_capacity t.empties
+  pub empties_room : vec_len t.empties + 2 * t.spare_events ≤ vec_capacity t.empties
   pub weights_room : vec_len t.weights + t.spare_steps ≤ vec_capacity t.weights
-  pub firsts_room : vec_len t.firsts + t.spare_steps ≤ vec_capacity t.firsts
+  pub newest_room : vec_len t.newest + t.spare_steps ≤ vec_capacity t.newest
   pub retired_room : vec_len t.retired + t.spare_events ≤ vec_capacity t.retired

@@ -5,7 +5,7 @@ ghost use Rattle.split_tree.specs.Journal.{lines_of, count_of, nodes_of, choices
 ghost use Rattle.proof_steps.specs.Spots.{changed_at};
 ghost use Rattle.split_tree.specs.Paths.{branch_to, replaced, leaves_by};
 ghost use Rattle.split_tree.specs.Ending.{or_else};
-ghost use Rattle.split_tree.specs.Caches.{branches_by, homes_by, spots_upto, empties, HasLines, HasFewChoices, IsNodeOf, state_by, with_children, states_by, seat_by, tally_by, weights, AreSmall, pushed, or_first, noted, IsNumbered};
+ghost use Rattle.split_tree.specs.Caches.{branches_by, homes_by, spots_upto, or_first, noted_empty, noted_empties, IsHome, AreHomes, HasLines, HasFewChoices, IsNodeOf, state_by, with_children, states_by, seat_by, tally_by, weights, AreSmall, pushed, noted, IsNumbered};
 
 use crate::branch::Branch;
 use crate::event::{End, Event, count_of, subject};
@@ -26,6 +26,8 @@ pub struct Retired {
     /// The clause's number, from 1.
     pub clause: u32,
     pub node: u32,
+    /// The place of the record before this one of the same clause, from 0.
+    pub older: Option<usize>,
 }
 
 /// What is known of a node.
@@ -80,14 +82,14 @@ fn branch_to(parent: u32, split: u32, side: u32) -> Branch
     Branch { parent, assumed }
 }
 
-/// Adds a home so many times.
-pub fn add_copies(homes: &mut Vec<Option<u32>>, home: Option<u32>, count: usize)
-    requires { vec_len homes.old + count ≤ vec_capacity homes.old }
-    ensures items { homes.new.items ≡ homes.old.items ++ replicate count home }
-    ensures capacity { vec_capacity homes.new ≡ vec_capacity homes.old }
+/// Adds an item so many times.
+pub fn add_copies<T: Copy>(items: &mut Vec<T>, item: T, count: usize)
+    requires { vec_len items.old + count ≤ vec_capacity items.old }
+    ensures items { items.new.items ≡ items.old.items ++ replicate count item }
+    ensures capacity { vec_capacity items.new ≡ vec_capacity items.old }
 {
     for _ in 0..count {
-        homes.push_reserved(home);
+        items.push_reserved(item);
     }
 }
 
@@ -130,28 +132,68 @@ pub fn is_empty(clause: &Clause) -> bool
     clause.is_empty()
 }
 
-/// Adds the number if the line with it states the empty clause.
-fn add_empty(numbers: &mut Vec<u32>, line: &Line, number: u32)
-    requires { vec_len numbers.old + 1 ≤ vec_capacity numbers.old }
-    ensures items { numbers.new.items ≡ numbers.old.items ++ empties number (line.now ∷ []) }
-    ensures len { vec_len numbers.new ≤ vec_len numbers.old + 1 }
-    ensures capacity { vec_capacity numbers.new ≡ vec_capacity numbers.old }
+/// How many nodes the event makes.
+pub fn nodes_of(event: &Event) -> usize
+    ensures { result ≡ nodes_of event.now }
 {
-    if is_empty(&line.stated.clause) {
-        numbers.push_reserved(number);
+    match event {
+        Event::Split { .. } => 2,
+        _ => 0,
     }
 }
 
-/// Adds the numbers of those lines that state the empty clause, of which the first has the number `first`.
-pub fn add_empties(numbers: &mut Vec<u32>, lines: &[Line], first: u32)
-    requires room { vec_len numbers.old + length lines.now ≤ vec_capacity numbers.old }
+fn or_first(number: u32, first: Option<u32>) -> Option<u32>
+    ensures { result ≡ or_first number first }
+{
+    match first {
+        Some(first) => Some(first),
+        None => Some(number),
+    }
+}
+
+/// Notes the number at the node, if none is noted there.
+fn note_first(empties: &mut Vec<Option<u32>>, node: u32, number: u32)
+    requires { node < vec_len empties.old }
+    ensures items { empties.new.items ≡ changed_at node (or_first number) empties.old.items }
+    ensures len { vec_len empties.new ≡ vec_len empties.old }
+    ensures capacity { vec_capacity empties.new ≡ vec_capacity empties.old }
+{
+    let place = node as usize;
+    let first = or_first(number, empties[place]);
+    empties[place] = first;
+}
+
+/// Notes the line's number at its home, if it states the empty clause and is the first line there that does.
+fn note_empty(empties: &mut Vec<Option<u32>>, home: Option<u32>, line: &Line, number: u32)
+    requires { IsHome (vec_len empties.old) home }
+    ensures items { empties.new.items ≡ noted_empty home line.now number empties.old.items }
+    ensures len { vec_len empties.new ≡ vec_len empties.old }
+    ensures capacity { vec_capacity empties.new ≡ vec_capacity empties.old }
+{
+    if let Some(node) = home {
+        if is_empty(&line.stated.clause) {
+            note_first(empties, node, number);
+        }
+    }
+}
+
+/// Notes for each node the first of the lines that states the empty clause and has the node for its home, where there
+/// is none yet. The first line has the number `first`.
+pub fn note_empties(
+    empties: &mut Vec<Option<u32>>,
+    homes: &[Option<u32>],
+    lines: &[Line],
+    first: u32,
+)
+    requires each { length homes.now ≡ length lines.now }
     requires few { first + length lines.now ≤ 2 ^ 32 }
-    ensures items { numbers.new.items ≡ numbers.old.items ++ empties first lines.now }
-    ensures len { vec_len numbers.new ≤ vec_len numbers.old + length lines.now }
-    ensures capacity { vec_capacity numbers.new ≡ vec_capacity numbers.old }
+    requires there { AreHomes (vec_len empties.old) homes.now }
+    ensures items { empties.new.items ≡ noted_empties homes.now lines.now first empties.old.items }
+    ensures len { vec_len empties.new ≡ vec_len empties.old }
+    ensures capacity { vec_capacity empties.new ≡ vec_capacity empties.old }
 {
     for k in 0..lines.len() {
-        add_empty(numbers, &lines[k], first + k as u32);
+        note_empty(empties, homes[k], &lines[k], first + k as u32);
     }
 }
 
@@ -364,36 +406,14 @@ pub fn add_retired(list: &mut Vec<Retired>, retired: Option<Retired>)
     }
 }
 
-fn or_first(node: u32, first: Option<u32>) -> Option<u32>
-    ensures { result ≡ or_first node first }
+/// Notes that the newest record of the clause that was activated or split, if any, has this place.
+pub fn note_newest(newest: &mut Vec<Option<usize>>, retired: Option<Retired>, place: usize)
+    requires { IsNumbered retired (vec_len newest.old) }
+    ensures items { newest.new.items ≡ noted retired place newest.old.items }
+    ensures len { vec_len newest.new ≡ vec_len newest.old }
+    ensures capacity { vec_capacity newest.new ≡ vec_capacity newest.old }
 {
-    match first {
-        Some(first) => Some(first),
-        None => Some(node),
-    }
-}
-
-/// Notes where the clause was first activated or split.
-fn note_first(firsts: &mut Vec<Option<u32>>, clause: u32, node: u32)
-    requires some { 1 ≤ clause }
-    requires there { clause ≤ vec_len firsts.old }
-    ensures items { firsts.new.items ≡ changed_at (clause - 1) (or_first node) firsts.old.items }
-    ensures len { vec_len firsts.new ≡ vec_len firsts.old }
-    ensures capacity { vec_capacity firsts.new ≡ vec_capacity firsts.old }
-{
-    let place = clause as usize - 1;
-    let first = or_first(node, firsts[place]);
-    firsts[place] = first;
-}
-
-/// Notes where the clause that was activated or split, if any, first was.
-pub fn note_firsts(firsts: &mut Vec<Option<u32>>, retired: Option<Retired>)
-    requires { IsNumbered retired (vec_len firsts.old) }
-    ensures items { firsts.new.items ≡ noted retired firsts.old.items }
-    ensures len { vec_len firsts.new ≡ vec_len firsts.old }
-    ensures capacity { vec_capacity firsts.new ≡ vec_capacity firsts.old }
-{
-    if let Some(Retired { clause, node }) = retired {
-        note_first(firsts, clause, node);
+    if let Some(Retired { clause, .. }) = retired {
+        newest[clause as usize - 1] = Some(place);
     }
 }

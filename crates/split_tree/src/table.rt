@@ -6,17 +6,18 @@ ghost use Rattle.spl_terms.specs.Clauses.{clause_symbols};
 ghost use Rattle.proof_steps.specs.declared.step.Line.{Line};
 ghost use Rattle.proof_steps.specs.Checked.{AreConclusions};
 ghost use Rattle.proof_steps.specs.Steps.{numbered, is_covered_rule};
-ghost use Rattle.split_tree.specs.Journal.{input_line, input_lines, lines_of, ledger, nodes};
+ghost use Rattle.split_tree.specs.Journal.{input_line, input_lines, lines_of, ledger, nodes, steps};
 ghost use Rattle.split_tree.specs.Facts.{cost_of, chosen, IsDead, Holds};
 ghost use Rattle.split_tree.specs.Ending.{has_empty, first_end, reason};
-ghost use Rattle.split_tree.specs.Caches.{empties, weights, AreSmall, retired_by, IsNodeOf, new_state, seats};
+ghost use Rattle.split_tree.specs.Caches.{empties, AreHomes, weights, AreSmall, retired, retired_at, retired_by, IsNumbered, IsNodeOf, new_state, seats};
 ghost use Rattle.split_tree.specs.Legal.{IsLegal, IsLegalJournal, IsSettled, IsClaimable};
 ghost use Rattle.split_tree.specs.Closing.{IsClosed};
 
 use crate::branch::Branch;
 use crate::caches::{
-    NodeState, Retired, Seat, Spot, Tally, add_branches, add_copies, add_empties, add_homes,
-    add_retired, add_spots, add_weights, is_empty, note_firsts, note_leaves, note_node, note_seat,
+    NodeState, Retired, Seat, Spot, Tally, add_branches, add_copies, add_homes, add_retired,
+    add_spots, add_weights, is_empty, nodes_of, note_empties, note_leaves, note_newest, note_node,
+    note_seat,
 };
 use crate::event::{Entry, Event, Limits, subject};
 use dep_sets::Deps;
@@ -49,14 +50,15 @@ pub struct Table {
     homes: Vec<Option<u32>>,
     /// Where the steps stand that follow those of the input.
     spots: Vec<Spot>,
-    /// The numbers of the empty clauses.
-    empties: Vec<u32>,
+    /// For each node the first empty clause that was published or assumed there; input clauses stand at the root.
+    empties: Vec<Option<u32>>,
     /// For each clause number, from 1, how many symbols the clause has.
     weights: Vec<u64>,
-    /// The clauses that were activated or split, with the nodes.
+    /// The clauses that were activated or split, with the nodes, each linked to the last one before it of the same
+    /// clause.
     retired: Vec<Retired>,
-    /// For each clause number, from 1, the node where the clause was first activated or split.
-    firsts: Vec<Option<u32>>,
+    /// For each clause number, from 1, the place of the last record of the clause among those.
+    newest: Vec<Option<usize>>,
     /// For each worker, from 1, what is known of it.
     seats: Vec<Seat>,
     tally: Tally,
@@ -173,13 +175,19 @@ fn new_homes(alloc: Global, count: usize) -> Result<Vec<Option<u32>>, AllocError
     Ok(homes)
 }
 
-fn new_empties(alloc: Global, lines: &[Line]) -> Result<Vec<u32>, AllocError>
-    requires { length lines.now < 2 ^ 32 }
-    ensures items { IfOk result (λ made. made.items ≡ empties 1 lines.now) }
+fn new_empties(
+    alloc: Global,
+    homes: &[Option<u32>],
+    lines: &[Line],
+) -> Result<Vec<Option<u32>>, AllocError>
+    requires each { length homes.now ≡ length lines.now }
+    requires few { length lines.now < 2 ^ 32 }
+    requires root { AreHomes 1 homes.now }
+    ensures items { IfOk result (λ made. made.items ≡ empties 1 homes.now lines.now) }
 {
-    let mut numbers = Vec::with_capacity(alloc, lines.len())?;
-    add_empties(&mut numbers, lines, 1);
-    Ok(numbers)
+    let mut made = vec![in alloc; None]?;
+    note_empties(&mut made, homes, lines, 1);
+    Ok(made)
 }
 
 fn new_weights(alloc: Global, lines: &[Line]) -> Result<Vec<u64>, AllocError>
@@ -191,12 +199,12 @@ fn new_weights(alloc: Global, lines: &[Line]) -> Result<Vec<u64>, AllocError>
     Ok(made)
 }
 
-fn new_firsts(alloc: Global, count: usize) -> Result<Vec<Option<u32>>, AllocError>
+fn new_newest(alloc: Global, count: usize) -> Result<Vec<Option<usize>>, AllocError>
     ensures items { IfOk result (λ made. made.items ≡ replicate count None) }
 {
-    let mut firsts = Vec::with_capacity(alloc, count)?;
-    add_copies(&mut firsts, None, count);
-    Ok(firsts)
+    let mut newest = Vec::with_capacity(alloc, count)?;
+    add_copies(&mut newest, None, count);
+    Ok(newest)
 }
 
 impl Table {
@@ -220,10 +228,10 @@ impl Table {
     {
         limits.fit();
         let opening = input_lines(alloc, input)?;
-        let empties = new_empties(alloc, opening.as_slice())?;
         let weights = new_weights(alloc, opening.as_slice())?;
         let homes = new_homes(alloc, input.len())?;
-        let firsts = new_firsts(alloc, input.len())?;
+        let empties = new_empties(alloc, &homes, opening.as_slice())?;
+        let newest = new_newest(alloc, input.len())?;
         let journal = Vec::with_capacity(alloc, workers as usize)?;
         let branches = vec![in alloc; None]?;
         let states = vec![in alloc; new_state()]?;
@@ -244,7 +252,7 @@ impl Table {
             empties,
             weights,
             retired: Vec::new(alloc),
-            firsts,
+            newest,
             seats,
             tally: Tally {
                 counted: 0,
@@ -282,9 +290,9 @@ impl Table {
         self.leaves.reserve(events)?;
         self.homes.reserve(steps)?;
         self.spots.reserve(steps)?;
-        self.empties.reserve(steps)?;
+        self.empties.reserve(2 * events)?;
         self.weights.reserve(steps)?;
-        self.firsts.reserve(steps)?;
+        self.newest.reserve(steps)?;
         self.retired.reserve(events)?;
         self.spare_events = events;
         self.spare_steps = steps;
@@ -303,16 +311,22 @@ impl Table {
         ensures spare_steps { self.new.spare_steps ≡ self.old.spare_steps - length (lines_of event) }
     {
         let nodes = self.branches.len() as u32;
-        let first = self.homes.len() as u32 + 1;
+        let steps = self.homes.len();
         let lines = event.lines().len();
         let cost = self.cost(by, &event);
         let retired = self.retires(&event);
         add_homes(&mut self.homes, &event, nodes);
         add_spots(&mut self.spots, self.journal.len(), lines);
-        add_empties(&mut self.empties, event.lines(), first);
+        add_copies(&mut self.empties, None, nodes_of(&event));
+        note_empties(
+            &mut self.empties,
+            &self.homes[steps..],
+            event.lines(),
+            steps as u32 + 1,
+        );
         add_weights(&mut self.weights, event.lines());
-        note_firsts(&mut self.firsts, retired);
-        add_copies(&mut self.firsts, None, lines);
+        note_newest(&mut self.newest, retired, self.retired.len());
+        add_copies(&mut self.newest, None, lines);
         add_retired(&mut self.retired, retired);
         add_branches(&mut self.branches, &event);
         note_node(&mut self.states, &event);
@@ -334,23 +348,33 @@ impl Table {
         room_of(event.is_stop(), stopped)
     }
 
-    /// The clause that the event activates or splits, with the node.
+    /// The record of the clause that is activated or split at the node.
+    fn retired_at(&self, clause: u32, node: u32) -> Retired
+        requires some { 1 ≤ clause }
+        requires there { clause ≤ steps self.now.setting self.now.past }
+        ensures { result ≡ retired_at clause node (retired self.now.past) }
+    {
+        Retired {
+            clause,
+            node,
+            older: self.newest[clause as usize - 1],
+        }
+    }
+
+    /// The record of the clause that the event activates or splits.
     fn retires(&self, event: &Event) -> Option<Retired>
-        requires { IsNodeOf event.now (nodes self.now.past) }
-        ensures { result ≡ retired_by event.now (chosen self.now.past) }
+        requires node { IsNodeOf event.now (nodes self.now.past) }
+        requires clause { IsNumbered (retired_by event.now (chosen self.now.past) (retired self.now.past)) (steps self.now.setting self.now.past) }
+        ensures { result ≡ retired_by event.now (chosen self.now.past) (retired self.now.past) }
     {
         match event {
             Event::Activate { node } => match self.chosen(*node) {
-                Some(clause) => Some(Retired {
-                    clause,
-                    node: *node,
-                }),
+                Some(clause) => Some(self.retired_at(clause, *node)),
                 None => None,
             },
-            Event::Split { node, steps, .. } => Some(Retired {
-                clause: subject(steps.as_slice()),
-                node: *node,
-            }),
+            Event::Split { node, steps, .. } => {
+                Some(self.retired_at(subject(steps.as_slice()), *node))
+            }
             _ => None,
         }
     }

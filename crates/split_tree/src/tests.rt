@@ -210,7 +210,7 @@ fn has_chosen_the_second(table: &Table) -> bool {
         return false;
     }
     let at_root = table.live(0) && table.leaf(0) && table.chosen(0) == Some(2);
-    let clauses = table.listed(0, 1) && table.listed(0, 3) && table.kept(0, 2);
+    let clauses = table.listed(0, 1) && table.home(3) == Some(0) && table.kept(0, 2);
     let workers = table.held(1) == Some(0) && table.held(2).is_none();
     let tree = table.parent(0).is_none() && table.assumption(0).is_none();
     let counts = table.rounds() == 1 && table.splits() == 0 && table.counted() == 0;

@@ -1,21 +1,20 @@
 -- What holds after a case was closed.
-use Rattle.std.proofs.Common.{◌≡◌, inl, inr, ℕ, zero, suc, ◌+◌, ◌<◌, ◌≤◌, ◌==◌, Bool, true, false, if◌then◌else◌, List, [], ◌∷◌, ◌++◌, length, Option, Some, None, refl, sym, ap, ◌∙◌, subst, arith}
+use Rattle.std.proofs.Common.{◌≡◌, inl, inr, ℕ, suc, ◌<◌, ◌==◌, Bool, true, false, if◌then◌else◌, List, [], ◌∷◌, ◌++◌, Option, Some, None, refl, sym, ap, ◌∙◌, subst, arith}
 use Rattle.std.specs.Prelude.{is_some}
 use Rattle.std.specs.List.{slice_get}
-use Rattle.std.proofs.lemmas.Bool.{cases_Bool, eqb-true, eq-eqb}
+use Rattle.std.proofs.lemmas.Bool.{cases_Bool}
 use Rattle.spl_terms.specs.Clauses.{is_empty}
 use Rattle.proof_steps.specs.declared.step.Line.{Line}
 use Rattle.split_tree.specs.declared.event.Entry.{Entry}
-use Rattle.split_tree.specs.declared.event.Event.TheVariants.{Publish}
 use Rattle.split_tree.specs.declared.event.End.{End}
-use Rattle.split_tree.specs.Journal.{Setting, nodes, rounds}
+use Rattle.split_tree.specs.Journal.{Setting, rounds}
 use Rattle.split_tree.specs.Paths.{is_leaf, on_path, owner}
-use Rattle.split_tree.specs.Facts.{chosen, claimed, IsDead, IsLive}
+use Rattle.split_tree.specs.Facts.{chosen, claimed, IsDead}
 use Rattle.split_tree.specs.Ending.{first_end}
 use Rattle.split_tree.specs.Legal.{IsSettled}
 use Rattle.backjump.specs.Cases.{OnlyCloses, IsCaseEntry}
 use Rattle.backjump.proofs.Deaths.{new_empty, owner_on}
-use Rattle.worker_cases.specs.Working.{IsSound, IsOpen, IsBetween, IsWorking, IsBusy, KeepsWork}
+use Rattle.worker_cases.specs.Working.{IsSound, IsBetween, IsBusy, KeepsWork}
 use Rattle.worker_cases.proofs.TreeLemmas.{published}
 use Rattle.worker_cases.proofs.IndexLemmas.{work_self, work_more, publish_work}
 

@@ -1,37 +1,35 @@
 -- What holds after each event of the worker.
-use Rattle.std.proofs.Common.{◌≡◌, ◌⊎◌, inl, inr, ℕ, zero, suc, ◌+◌, ◌<◌, ◌≤◌, ◌==◌, Bool, true, false, not, ◌&&◌, ◌||◌, if◌then◌else◌, cond, List, [], ◌∷◌, ◌++◌, length, Option, Some, None, refl, sym, ap, ◌∙◌, subst, arith, length-append}
+use Rattle.std.proofs.Common.{◌≡◌, ◌⊎◌, inl, inr, ℕ, zero, suc, ◌+◌, ◌<◌, ◌≤◌, ◌==◌, Bool, true, false, not, ◌&&◌, if◌then◌else◌, List, [], ◌∷◌, ◌++◌, Option, Some, None, refl, sym, ap, ◌∙◌, subst, arith, length-append}
 use Rattle.std.specs.Prelude.{Contains}
-use Rattle.std.proofs.lemmas.Bool.{or_cases, or_left, or_right, or_from, and_parts, and_from, eqb-true, eq-eqb, ne_eqb, cond-true, cond-false, cases_Bool, false≢true}
+use Rattle.std.proofs.lemmas.Bool.{or_cases, or_left, or_right, or_from, and_parts, and_from, eqb-true, eq-eqb, ne_eqb, cond-true, cond-false, cases_Bool}
 use Rattle.spl_terms.specs.declared.clause.Part.{Part}
 use Rattle.spl_terms.specs.declared.clause.Clause.{Clause}
 use Rattle.spl_terms.specs.declared.atom.Atom.{Atom}
 use Rattle.spl_terms.specs.Clauses.{is_empty, no_atoms, IsEmpty}
 use Rattle.dep_sets.specs.declared.deps.Assumption.{Assumption}
 use Rattle.proof_steps.specs.declared.step.Step.{Step}
-use Rattle.proof_steps.specs.declared.step.Statement.{Statement}
 use Rattle.proof_steps.specs.declared.step.Line.{Line}
 use Rattle.proof_steps.specs.Steps.{numbered, ground_resolve}
 use Rattle.split_tree.specs.declared.event.Entry.{Entry}
 use Rattle.split_tree.specs.declared.event.Event.{Event}
-use Rattle.split_tree.specs.declared.event.Event.TheVariants.{Claim, Choose, Publish, Split, Activate, Saturated, Spent, Big, Full, Stop}
+use Rattle.split_tree.specs.declared.event.Event.TheVariants.{Claim, Choose, Activate, Stop}
 use Rattle.split_tree.specs.declared.event.End.{End}
-use Rattle.split_tree.specs.declared.event.End.TheVariants.{Proved, Memory}
+use Rattle.split_tree.specs.declared.event.End.TheVariants.{Proved}
 use Rattle.split_tree.specs.State.{State}
-use Rattle.split_tree.specs.Journal.{Setting, ledger, nodes, rounds, splits, steps}
-use Rattle.split_tree.specs.Paths.{owner, is_leaf, on_path}
-use Rattle.split_tree.specs.Facts.{listed, kept, worked, chosen, chosen_by, claimed, is_number, is_stop, has_stopped, cost_of, IsLive, IsEmptyAt, Holds, before_choice, inferred, is_case_rule, published_since}
-use Rattle.split_tree.specs.Picking.{pick_at, is_passive}
-use Rattle.split_tree.specs.Ending.{first_end, or_else, end_by, no_assumptions, has_empty, reason}
-use Rattle.split_tree.specs.Legal.{IsLegal, IsClaimable, IsPair, IsPartner, IsPremise, IsListed}
+use Rattle.split_tree.specs.Journal.{Setting, ledger, splits, steps}
+use Rattle.split_tree.specs.Paths.{owner, on_path}
+use Rattle.split_tree.specs.Facts.{listed, kept, worked, chosen, claimed, is_number, is_stop, has_stopped, cost_of, before_choice, is_case_rule, published_since}
+use Rattle.split_tree.specs.Picking.{pick_at}
+use Rattle.split_tree.specs.Ending.{first_end, or_else, end_by, no_assumptions}
+use Rattle.split_tree.specs.Legal.{IsClaimable, IsPair, IsPartner, IsPremise, IsListed}
 use Rattle.split_tree.proofs.Climb.{on_path-self}
 use Rattle.split_tree.proofs.Picks.{pick_passive}
-use Rattle.split_tree.proofs.Homes.{listed_within}
-use Rattle.worker_cases.specs.Covering.{IsNumber, Grows}
+use Rattle.worker_cases.specs.Covering.{Grows, AddsLine}
 use Rattle.worker_cases.specs.Working.{listing, IsSound, IsOpen, IsBetween, IsWorking, IsIdle, IsBusy, ArePartners, IsMate, IsNewLine, IsStep}
 use Rattle.worker_cases.proofs.FilingLemmas.{numbered_left, numbered_last, numbered_within}
 use Rattle.backjump.proofs.Deaths.{owner_on}
 use Rattle.worker_cases.proofs.PathLemmas.{worked_listed}
-use Rattle.worker_cases.proofs.TreeLemmas.{KeepsTree, settled_keeps, quiet_tree, quiet_listing, publish_tree, published, publishes_here, publishes_old, publish_grows}
+use Rattle.worker_cases.proofs.TreeLemmas.{KeepsTree, settled_keeps, quiet_tree, quiet_listing, publish_tree, published, publishes_here, publishes_cases, publishes_old, publish_grows}
 use Rattle.worker_cases.proofs.CoverLemmas.{grows_self, grows_more, number_grows}
 
 pub open_keeps : (s : Setting) (old new : List Entry) → KeepsTree s old new → IsSound s new → first_end new ≡ None → IsOpen s old → IsOpen s new
@@ -217,15 +215,20 @@ publish_step old new m clause node l h fresh at full e f sound =
       splits = ap splits f ∙ (let same : splits past + 0 ≡ splits past = omega arith in same);
     }
 
-pub publish_listed : (old new : State) (m clause node : ℕ) (l : Line) → IsBusy old.setting old.past m clause → node ≡ owner old.past l.stated.deps m → new.setting ≡ old.setting → new.past ≡ published 1 node l ∷ old.past → listed new.setting new.past m (steps new.setting new.past) ≡ true
-publish_listed old new m clause node l h at e f =
+pub publish_adds : (old new : State) (m clause node : ℕ) (l : Line) → IsBusy old.setting old.past m clause → node ≡ owner old.past l.stated.deps m → new.setting ≡ old.setting → new.past ≡ published 1 node l ∷ old.past → AddsLine (listing old.setting old.past m) (listing new.setting new.past m) l
+publish_adds old new m clause node l h at e f =
     let s = old.setting in
     let past = old.past in
+    let then' = published 1 node l ∷ past in
     let w = h.working in
     let on : on_path past m node ≡ true = subst (λ x. on_path past m x ≡ true) (sym at) (owner_on s past w.rests.sound.legal l.stated.deps m w.there) in
-    let long : steps s past + 1 ≡ steps s (published 1 node l ∷ past) = omega (arith, length-append (ledger s past) (l ∷ [])) in
-    moved (λ x p. listed x p m (steps x p) ≡ true) s new.setting (published 1 node l ∷ past) new.past e f
-    (subst (λ n. listed s (published 1 node l ∷ past) m n ≡ true) long (publishes_here s past 1 node l m on))
+    let long : steps s past + 1 ≡ steps s then' = omega (arith, length-append (ledger s past) (l ∷ [])) in
+    moved (λ x p. AddsLine (listing s past m) (listing x p m) l) s new.setting then' new.past e f (record {
+      lines = refl;
+      lists = subst (λ n. listed s then' m n ≡ true) long (publishes_here s past 1 node l m on);
+      keeps = λ n h. publishes_old s past 1 node l m n h;
+      only = λ n h. elim (publishes_cases s past 1 node l m n h) [ inl now ↦ inr (now.1 ∙ long) | inr before ↦ inl before ];
+    })
 
 -- ---- whether a clause is empty
 

@@ -1,5 +1,5 @@
 -- Entries that stay linked, and lines that stay filed.
-use Rattle.std.proofs.Common.{◌≡◌, ◌⊎◌, inl, inr, ℕ, zero, suc, ◌+◌, ◌-◌, ◌<◌, ◌≤◌, ◌==◌, Bool, true, false, ◌||◌, if◌then◌else◌, List, [], ◌∷◌, ◌++◌, length, Option, Some, None, unwrap_or, refl, sym, ap, ◌∙◌, subst, arith, length-append}
+use Rattle.std.proofs.Common.{◌≡◌, ◌⊎◌, inl, inr, ℕ, zero, suc, ◌+◌, ◌-◌, ◌<◌, ◌≤◌, ◌==◌, Bool, true, false, if◌then◌else◌, List, [], ◌∷◌, ◌++◌, length, Option, Some, None, unwrap_or, refl, sym, ap, ◌∙◌, subst, arith, length-append}
 use Rattle.std.specs.Prelude.{nat_eq, MatchBool}
 use Rattle.std.specs.List.{slice_get}
 use Rattle.std.proofs.lemmas.Bool.{eqb-true, eq-eqb, cases_lt}
@@ -7,14 +7,13 @@ use Rattle.std.proofs.lemmas.Option.{slice_get_within}
 use Rattle.indexmap.specs.IndexMap.{get}
 use Rattle.spl_terms.specs.declared.atom.Atom.{Atom}
 use Rattle.spl_terms.specs.declared.clause.Clause.{Clause}
-use Rattle.spl_truth.specs.Redundancy.{is_subclause}
 use Rattle.spl_truth.proofs.Subclauses.{equal_subclause}
 use Rattle.proof_steps.specs.declared.step.Line.{Line}
 use Rattle.proof_steps.specs.Steps.{numbered}
-use Rattle.worker_cases.specs.Covering.{Listing, IsNew}
+use Rattle.worker_cases.specs.Covering.{Listing, IsNew, IsSubsumed, AddsLine}
 use Rattle.worker_cases.specs.declared.filing.Entry.{Entry}
 use Rattle.worker_cases.specs.declared.filing.Filing.{Filing}
-use Rattle.worker_cases.specs.Filing.{key, first_key, clause_key, before_arrow, after_arrow, HasKey, IsNewest, IsLinked, IsFiled, AreFiled, IsAdded, HasFiled, HasFiledFirst, HasNoSubclause, AreNoSubclauses}
+use Rattle.worker_cases.specs.Filing.{key, first_key, clause_key, before_arrow, after_arrow, HasKey, IsNewest, IsLinked, IsFiled, IsAdded, FilesOnly, FilesWanted, HasFiled, IsSubsumedByFiled, IsNoSubclause, HasNoSubclause, AreNoSubclauses}
 use Rattle.worker_cases.proofs.Lists.{get_left, get_snoc}
 
 -- ---- entries by number
@@ -129,64 +128,115 @@ none_linked filing rule items = record {
 pub filed_left : (es : List Entry) (e : Entry) (key value : ℕ) → IsFiled es key value → IsFiled (es ++ e ∷ []) key value
 filed_left es e key value h = (h.0, h.1, numbered_left es e h.0 (numbered_within es h.0 h.1 h.2).1 ∙ h.2, h.3, h.4)
 
+pub files_self : (es : List Entry) (value : ℕ) → FilesOnly es es value
+files_self es value = record { keeps = λ k v h. h; only = λ k v h. inl h }
+
+pub files_more : (a b c : List Entry) (value : ℕ) → FilesOnly a b value → FilesOnly b c value → FilesOnly a c value
+files_more a b c value f g = record {
+  keeps = λ k v h. g.keeps k v (f.keeps k v h);
+  only = λ k v h. elim (g.only k v h) [ inl e ↦ f.only k v e | inr e ↦ inr e ];
+}
+
+files_snoc : (es : List Entry) (e : Entry) → FilesOnly es (es ++ e ∷ []) e.value
+files_snoc es e = record {
+  keeps = λ k v h. filed_left es e k v h;
+  only = λ k v h. elim (numbered_snoc es e h.0 h.1 h.2) [
+    | inl b ↦ inl (h.0, h.1, b.1, h.3, h.4)
+    | inr a ↦ inr (sym h.4 ∙ ap (λ (f : Entry). f.value) (sym a.1))
+  ];
+}
+
+pub files_added : (old new : List Entry) (key value : ℕ) → IsAdded old new key value → FilesOnly old new value
+files_added old new key value a = subst (λ es. FilesOnly old es value) (sym a.last) (files_snoc old (record { key = key; value = value; older = a.older }))
+
+pub filed_added : (old new : List Entry) (key value : ℕ) → IsAdded old new key value → IsFiled new key value
+filed_added old new key value a = subst (λ es. IsFiled es key value) (sym a.last) (length old + 1, _, numbered_last old (record { key = key; value = value; older = a.older }), refl, refl)
+
+pub none_filed : (es : List Entry) (key value : ℕ) → es ≡ [] → IsFiled es key value → ⊥
+none_filed es key value e f = absurd (omega (arith, numbered_within es f.0 f.1 f.2, ap length e))
+
+pub wanted : (b : Bool) (old new : List Entry) (value : ℕ) → b ≡ true → FilesOnly old new value → FilesWanted b old new value
+wanted b old new value is f = record { keeps = f.keeps; only = λ k v h. elim (f.only k v h) [ inl before ↦ inl before | inr own ↦ inr (own, is) ] }
+
+pub unwanted : (b : Bool) (es : List Entry) (value : ℕ) → FilesWanted b es es value
+unwanted b es value = record { keeps = λ k v h. h; only = λ k v h. inl h }
+
 -- ---- filing one line after another
 
-added_length : (old new : List Entry) (key value : ℕ) → IsAdded old new key value → length new ≡ length old + 1
-added_length old new key value a = ap length a.last ∙ length-append old (record { key = key; value = value; older = a.older } ∷ [])
+-- those of these lines that are listed are filed, and nothing else
+pub record HasFiledOf (at : Listing) (among : ℕ → Type 0) (filing : Filing) : Type 0 where
+  pub linked : IsLinked filing
+  pub filed : (n : ℕ) (l : Line) → among n → at.lists n ≡ true → numbered at.lines n ≡ Some l → IsFiled filing.entries.items (clause_key l.stated.clause) n
+  pub only : (key n : ℕ) → IsFiled filing.entries.items key n → at.lists n ≡ true
 
-pub first_none : (lines : List Line) (filing : Filing) → filing.entries.items ≡ [] → IsLinked filing → HasFiledFirst lines filing
-first_none lines filing empty l = record { linked = l; filed = λ n m low is. absurd (omega (arith, low, ap length empty, numbered_within lines n m is)) }
+pub filed_none : (at : Listing) (among : ℕ → Type 0) (filing : Filing) → IsLinked filing → filing.entries.items ≡ [] → ((n : ℕ) (l : Line) → among n → numbered at.lines n ≡ Some l → ⊥) → HasFiledOf at among filing
+filed_none at among filing linked empty none = record {
+  linked = linked;
+  filed = λ n l one on is. absurd (none n l one is);
+  only = λ q n f. absurd (none_filed filing.entries.items q n empty f);
+}
 
-pub first_more : (lines : List Line) (number : ℕ) (line : Line) (a b : Filing) (key : ℕ) → 1 ≤ number → numbered lines number ≡ Some line → key ≡ clause_key line.stated.clause → HasFiledFirst lines a → length a.entries.items ≡ number - 1 → IsLinked b → IsAdded a.entries.items b.entries.items key number → HasFiledFirst lines b × (length b.entries.items ≡ number)
-first_more lines number line a b key some is k h long l added =
-    let whole : length b.entries.items ≡ number = omega (arith, added_length a.entries.items b.entries.items key number added, long, some) in (
-      record {
-        linked = l;
-        filed = λ n m low found. subst (λ es. IsFiled es (clause_key m.stated.clause) n) (sym added.last) (elim (cases_lt n number) [
-          | inl less ↦ filed_left a.entries.items _ (clause_key m.stated.clause) n (h.filed n m (omega (arith, less, long)) found)
-          | inr more ↦
-              let same : number ≡ n = omega (arith, low, more, whole) in
-              let line_is : line ≡ m = (let x : Some line ≡ Some m = sym is ∙ ap (numbered lines) same ∙ found in cc) in
-              (length a.entries.items + 1, _, numbered_last a.entries.items _, k ∙ ap (λ (x : Line). clause_key x.stated.clause) line_is, same)
-        ]);
-      },
-      whole,
-    )
+pub filed_more : (at : Listing) (among more : ℕ → Type 0) (a b : Filing) (number : ℕ) → HasFiledOf at among a → IsLinked b → FilesWanted (at.lists number) a.entries.items b.entries.items number
+    → ((l : Line) → at.lists number ≡ true → numbered at.lines number ≡ Some l → IsFiled b.entries.items (clause_key l.stated.clause) number)
+    → ((n : ℕ) → more n → among n ⊎ (n ≡ number)) → HasFiledOf at more b
+filed_more at among more a b number h linked files own told = record {
+  linked = linked;
+  filed = λ n l one on is. elim (told n one) [
+    | inl before ↦ files.keeps (clause_key l.stated.clause) n (h.filed n l before on is)
+    | inr here ↦ subst (IsFiled b.entries.items (clause_key l.stated.clause)) (sym here) (own l (ap at.lists (sym here) ∙ on) (ap (numbered at.lines) (sym here) ∙ is))
+  ];
+  only = λ q n f. elim (files.only q n f) [
+    | inl before ↦ h.only q n before
+    | inr here ↦ ap at.lists here.0 ∙ here.1
+  ];
+}
 
-pub first_all : (lines : List Line) (filing : Filing) → length lines ≤ length filing.entries.items → length filing.entries.items ≤ length lines → HasFiledFirst lines filing → HasFiled lines filing
-first_all lines filing long few h = record { linked = h.linked; filed = λ n l is. h.filed n l (omega (arith, long, numbered_within lines n l is)) is; whole = omega (arith, long, few) }
+pub filed_all : (at : Listing) (among : ℕ → Type 0) (filing : Filing) → ((n : ℕ) (l : Line) → at.lists n ≡ true → numbered at.lines n ≡ Some l → among n) → HasFiledOf at among filing → HasFiled at filing
+filed_all at among filing all h = record { linked = h.linked; filed = λ n l on is. h.filed n l (all n l on is) on is; only = h.only }
+
+pub line_added : (old new : Listing) (l : Line) → AddsLine old new l → length new.lines ≡ length old.lines + 1
+line_added old new l adds = ap length adds.lines ∙ length-append old.lines (l ∷ [])
 
 -- one more line was filed, as it was added to the ledger
-pub has_filed_more : (lines new : List Line) (line : Line) (a b : Filing) (key value : ℕ) → new ≡ lines ++ line ∷ [] → key ≡ clause_key line.stated.clause → value ≡ length new → HasFiled lines a → IsLinked b → IsAdded a.entries.items b.entries.items key value → HasFiled new b
-has_filed_more lines new line a b key value is k v h l added =
-    let long : length new ≡ length lines + 1 = ap length is ∙ length-append lines (line ∷ []) in
+pub has_filed_more : (old new : Listing) (line : Line) (a b : Filing) (key value : ℕ) → AddsLine old new line → key ≡ clause_key line.stated.clause → value ≡ length new.lines → HasFiled old a → IsLinked b → IsAdded a.entries.items b.entries.items key value → HasFiled new b
+has_filed_more old new line a b key value adds k v h linked added =
+    let long = line_added old new line adds in
+    let files = files_added a.entries.items b.entries.items key value added in
     record {
-      linked = l;
-      filed = λ n m found. subst (λ es. IsFiled es (clause_key m.stated.clause) n) (sym added.last) (elim (numbered_snoc lines line n m (ap (λ ls. numbered ls n) (sym is) ∙ found)) [
-        | inl b ↦ filed_left a.entries.items _ (clause_key m.stated.clause) n (h.filed n m b.1)
-        | inr e ↦ (length a.entries.items + 1, _, numbered_last a.entries.items _, k ∙ ap (λ (x : Line). clause_key x.stated.clause) e.1, v ∙ long ∙ sym e.0)
-      ]);
-      whole = omega (arith, added_length a.entries.items b.entries.items key value added, h.whole, long);
+      linked = linked;
+      filed = λ n l on is. elim (numbered_snoc old.lines line n l (ap (λ ls. numbered ls n) (sym adds.lines) ∙ is)) [
+        | inl before ↦ elim (adds.only n on) [
+          | inl listed ↦ files.keeps (clause_key l.stated.clause) n (h.filed n l listed before.1)
+          | inr last ↦ absurd (omega (arith, before.0, last, long))
+        ]
+        | inr here ↦
+            let n_is : value ≡ n = omega (arith, v, long, here.0) in
+            subst (IsFiled b.entries.items (clause_key l.stated.clause)) n_is (subst (λ q. IsFiled b.entries.items q value) (k ∙ ap (λ (x : Line). clause_key x.stated.clause) here.1) (filed_added a.entries.items b.entries.items key value added))
+      ];
+      only = λ q n f. elim (files.only q n f) [
+        | inl before ↦ adds.keeps n (h.only q n before)
+        | inr here ↦ ap new.lists (here ∙ v) ∙ adds.lists
+      ];
     }
 
 -- ---- looking for a subclause
 
 -- what was seen of the entries of the key, from the newest on
-pub record IsUnderWay (ls : Listing) (entries : List Entry) (key : ℕ) (c : Clause) (number : ℕ) : Type 0 where
+pub record IsUnderWay (ls : List Line) (entries : List Entry) (key : ℕ) (c : Clause) (number : ℕ) : Type 0 where
   pub within : number ≤ length entries
   pub own : 0 < number → HasKey entries key number
   pub none : HasNoSubclause ls entries key number c
 
-pub under_way_from : (ls : Listing) (filing : Filing) (key number : ℕ) (c : Clause) → IsLinked filing → number ≡ unwrap_or (get nat_eq filing.newest key) 0 → IsUnderWay ls filing.entries.items key c number
+pub under_way_from : (ls : List Line) (filing : Filing) (key number : ℕ) (c : Clause) → IsLinked filing → number ≡ unwrap_or (get nat_eq filing.newest key) 0 → IsUnderWay ls filing.entries.items key c number
 under_way_from ls filing key number c l is =
     let w : IsNewest filing.entries.items key (length filing.entries.items) number = subst (IsNewest filing.entries.items key (length filing.entries.items)) (sym is) (l.newest key) in
     record {
       within = w.within;
       own = w.own;
-      none = λ y e m less at same on there. absurd (w.last y less (numbered_within filing.entries.items y e at).1 (e, at, same));
+      none = λ y e less at same. absurd (w.last y less (numbered_within filing.entries.items y e at).1 (e, at, same));
     }
 
-pub under_way_more : (ls : Listing) (filing : Filing) (key number : ℕ) (e : Entry) (c : Clause) → IsLinked filing → numbered filing.entries.items number ≡ Some e → ((l : Line) → ls.lists e.value ≡ true → numbered ls.lines e.value ≡ Some l → is_subclause l.stated.clause c ≡ false) → IsUnderWay ls filing.entries.items key c number → IsUnderWay ls filing.entries.items key c e.older
+pub under_way_more : (ls : List Line) (filing : Filing) (key number : ℕ) (e : Entry) (c : Clause) → IsLinked filing → numbered filing.entries.items number ≡ Some e → IsNoSubclause ls e.value c → IsUnderWay ls filing.entries.items key c number → IsUnderWay ls filing.entries.items key c e.older
 under_way_more ls filing key number e c l at not_here u =
     let p = numbered_within filing.entries.items number e at in
     let k = u.own p.0 in
@@ -196,14 +246,14 @@ under_way_more ls filing key number e c l at not_here u =
     record {
       within = omega (arith, w.within, p.1);
       own = w.own;
-      none = λ y f m less is of on there. elim (cases_lt number y) [
-        | inl after ↦ u.none y f m after is of on there
+      none = λ y f less is of. elim (cases_lt number y) [
+        | inl after ↦ u.none y f after is of
         | inr before ↦ elim (cases_lt y number) [
           | inl earlier ↦ absurd (w.last y less (omega (arith, earlier)) (f, is, of))
           | inr here ↦
               let eq : y ≡ number = omega (arith, before, here) in
               let f_is : f ≡ e = (let s : Some f ≡ Some e = sym is ∙ ap (numbered filing.entries.items) eq ∙ at in cc) in
-              not_here m (subst (λ (f : Entry). ls.lists f.value ≡ true) f_is on) (subst (λ (f : Entry). numbered ls.lines f.value ≡ Some m) f_is there)
+              subst (λ (f : Entry). IsNoSubclause ls f.value c) (sym f_is) not_here
         ]
       ];
     }
@@ -211,13 +261,13 @@ under_way_more ls filing key number e c l at not_here u =
 pub older_below : (filing : Filing) (number : ℕ) (e : Entry) → IsLinked filing → numbered filing.entries.items number ≡ Some e → e.older < number
 older_below filing number e l at = omega (arith, (l.older number e at).within, numbered_within filing.entries.items number e at)
 
-pub under_way_ends : (ls : Listing) (entries : List Entry) (key number : ℕ) (c : Clause) → numbered entries number ≡ None → IsUnderWay ls entries key c number → HasNoSubclause ls entries key 0 c
+pub under_way_ends : (ls : List Line) (entries : List Entry) (key number : ℕ) (c : Clause) → numbered entries number ≡ None → IsUnderWay ls entries key c number → HasNoSubclause ls entries key 0 c
 under_way_ends ls entries key zero c none u = u.none
 under_way_ends ls entries key (suc k) c none u =
     let t = numbered_there entries (suc k) (omega arith) u.within in
     absurd (let s : None ≡ Some t.0 = sym none ∙ t.1 in cc)
 
-pub have_more : (ls : Listing) (entries : List Entry) (side i : ℕ) (atoms : List Atom) (x : Atom) (q : ℕ) (c : Clause) → slice_get atoms i ≡ Some x → q ≡ key side x → HasNoSubclause ls entries q 0 c
+pub have_more : (ls : List Line) (entries : List Entry) (side i : ℕ) (atoms : List Atom) (x : Atom) (q : ℕ) (c : Clause) → slice_get atoms i ≡ Some x → q ≡ key side x → HasNoSubclause ls entries q 0 c
     → ((k : ℕ) (a : Atom) → k < i → slice_get atoms k ≡ Some a → HasNoSubclause ls entries (key side a) 0 c)
     → (k : ℕ) (a : Atom) → k < i + 1 → slice_get atoms k ≡ Some a → HasNoSubclause ls entries (key side a) 0 c
 have_more ls entries side i atoms x q c here is none before k a less at = elim (cases_lt k i) [
@@ -236,13 +286,18 @@ at_first P [] (x ∷ a) c zero_is one two three = two 0 x refl
 at_first P [] [] (x ∷ c) zero_is one two three = three 0 x refl
 at_first P [] [] [] zero_is one two three = zero_is
 
-pub none_stated : (ls : Listing) (filing : Filing) (c : Clause) → HasFiled ls.lines filing → AreNoSubclauses ls filing.entries.items c → IsNew ls c
+none_stated : (ls : Listing) (filing : Filing) (c : Clause) → HasFiled ls filing → AreNoSubclauses ls.lines filing.entries.items c → IsNew ls c
 none_stated ls filing c h none n l on is same =
-    let at_key : HasNoSubclause ls filing.entries.items (clause_key c) 0 c = at_first (λ k. HasNoSubclause ls filing.entries.items k 0 c) c.succedent c.antecedent c.constraint none.empty none.succedent none.antecedent none.constraint in
-    let f = h.filed n l is in
-    let not_in = at_key f.0 f.1 l (numbered_within filing.entries.items f.0 f.1 f.2).0 f.2 (f.3 ∙ ap clause_key same) (ap ls.lists f.4 ∙ on) (ap (numbered ls.lines) f.4 ∙ is) in
+    let at_key : HasNoSubclause ls.lines filing.entries.items (clause_key c) 0 c = at_first (λ k. HasNoSubclause ls.lines filing.entries.items k 0 c) c.succedent c.antecedent c.constraint none.empty none.succedent none.antecedent none.constraint in
+    let f = h.filed n l on is in
+    let not_in = at_key f.0 f.1 (numbered_within filing.entries.items f.0 f.1 f.2).0 f.2 (f.3 ∙ ap clause_key same) l (ap (numbered ls.lines) f.4 ∙ is) in
     let within = equal_subclause l.stated.clause c same in
     (let x : true ≡ false = sym within ∙ not_in in cc)
+
+-- what was found among the lines that are filed, where these are the listed ones
+pub told_of_listed : (ls : Listing) (filing : Filing) (c : Clause) (b : Bool) → HasFiled ls filing → MatchBool b (IsSubsumedByFiled ls.lines filing.entries.items c) (AreNoSubclauses ls.lines filing.entries.items c) → MatchBool b (IsSubsumed ls c) (IsNew ls c)
+told_of_listed ls filing c true h s = record { number = s.number; lists = h.only s.key s.number s.filed; line = s.by.line; found = s.by.found; subsumes = s.by.subsumes }
+told_of_listed ls filing c false h none = none_stated ls filing c h none
 
 pub matched : (A B C : Type 0) (b : Bool) → (B → C) → MatchBool b A B → MatchBool b A C
 matched A B C true f m = m

@@ -1,28 +1,25 @@
 -- What makes each event of the worker legal.
-use Rattle.std.proofs.Common.{◌≡◌, ◌⊎◌, inl, inr, ℕ, zero, suc, ◌+◌, ◌<◌, ◌≤◌, ◌==◌, Bool, true, false, ◌&&◌, ◌||◌, if◌then◌else◌, List, [], ◌∷◌, ◌++◌, length, Option, Some, None, refl, sym, ap, ◌∙◌, subst, arith}
-use Rattle.std.specs.Prelude.{Contains, IsSome, count_by}
-use Rattle.std.proofs.lemmas.Bool.{cases_Bool, eqb-true, eq-eqb, ne_eqb}
+use Rattle.std.proofs.Common.{◌≡◌, inl, inr, ℕ, ◌<◌, ◌≤◌, ◌==◌, true, false, List, [], ◌∷◌, Option, Some, None, refl, sym, ap, ◌∙◌, subst, arith}
+use Rattle.std.specs.Prelude.{IsSome, count_by}
+use Rattle.std.proofs.lemmas.Bool.{cases_Bool, eqb-true, eq-eqb}
 use Rattle.spl_terms.specs.declared.clause.Part.{Part}
 use Rattle.spl_terms.specs.declared.clause.Clause.{Clause}
-use Rattle.spl_terms.specs.Clauses.{in_order, renumbered, clause_symbols}
-use Rattle.proof_steps.specs.declared.step.Statement.{Statement}
+use Rattle.spl_terms.specs.Clauses.{in_order, renumbered}
 use Rattle.proof_steps.specs.declared.step.Step.{Step}
 use Rattle.proof_steps.specs.declared.step.Line.{Line}
-use Rattle.proof_steps.specs.Steps.{numbered, ground_resolve}
+use Rattle.proof_steps.specs.Steps.{ground_resolve}
 use Rattle.proof_steps.specs.Checked.{stated}
 use Rattle.proof_steps.specs.Covering.{IsVariant}
 use Rattle.split_tree.specs.declared.event.Entry.{Entry}
-use Rattle.split_tree.specs.declared.event.Event.{Event}
-use Rattle.split_tree.specs.declared.event.Event.TheVariants.{Claim, Choose, Publish, Split, Activate, Saturated, Spent, Big, Full, Stop}
-use Rattle.split_tree.specs.Journal.{Setting, ledger, nodes, rounds, splits, counted, count_of, is_counted}
+use Rattle.split_tree.specs.declared.event.Event.TheVariants.{Claim, Choose, Publish, Activate, Saturated, Spent, Big, Full, Stop}
+use Rattle.split_tree.specs.Journal.{Setting, ledger, nodes, rounds, counted, count_of, is_counted}
 use Rattle.split_tree.specs.Paths.{owner, is_leaf}
-use Rattle.split_tree.specs.Facts.{listed, kept, chosen, IsLive, before_choice, published_since}
+use Rattle.split_tree.specs.Facts.{chosen, IsLive}
 use Rattle.split_tree.specs.Picking.{pick_at}
-use Rattle.split_tree.specs.Legal.{IsLegal, IsPublishable, IsListed, IsListedAs, HasNoVariant, AreInferencesCovered, IsUnsplit, IsClaimable, IsTooLarge}
+use Rattle.split_tree.specs.Legal.{IsLegal, IsPublishable, IsListed, AreInferencesCovered, IsUnsplit, IsClaimable}
 use Rattle.split_tree.proofs.Bounds.{rounds_bound}
-use Rattle.split_tree.proofs.Homes.{listed_within}
-use Rattle.worker_cases.specs.Working.{listing, IsOpen, IsBetween, IsWorking, IsIdle, IsBusy, IsLarge, IsNewLine}
-use Rattle.worker_cases.proofs.OrderLemmas.{IsInOrder, conclude_in_order, own_renumbering}
+use Rattle.worker_cases.specs.Working.{IsBetween, IsIdle, IsBusy, IsLarge, IsNewLine}
+use Rattle.worker_cases.proofs.OrderLemmas.{conclude_in_order, own_renumbering}
 use Rattle.backjump.proofs.Deaths.{listed_below, owner_on}
 
 pub legal_choose : (s : Setting) (past : List Entry) (m clause : ℕ) → IsIdle s past m → rounds past < s.limits.rounds → pick_at s past m ≡ Some clause → IsLegal s past 1 (Choose m clause None)

@@ -7,8 +7,10 @@ pub mod CoverLemmas
 pub mod VainLemmas
 pub mod TreeLemmas
 pub mod LegalLemmas
+pub mod LineLemmas
 pub mod IndexLemmas
 pub mod EventLemmas
+pub mod QueueLemmas
 pub mod ClosingLemmas
 pub mod SplitLemmas
 pub mod WorkLemmas

@@ -22,7 +22,7 @@ use Rattle.split_tree.specs.Journal.{Setting, ledger}
 use Rattle.split_tree.specs.Legal.{IsLegalJournal}
 use Rattle.worker_cases.specs.Working.{AreOrdered, IsSound}
 use Rattle.proof_steps.specs.Parts.{Parted, parts_of, part_by, parted_by, left_marks, negation, negated_atom}
-use Rattle.proof_steps.specs.Steps.{numbered, when, fits, without, joined, may_resolve, resolvent, resolved, paramodulated, sides_of, reflexed, equality_factored, conclude, concluded, of_one, of_two, of_three, from_one, from_two, resolution, factored, paramodulation, rewritten, reflection, equality_factoring, factored_sides, assumed, assumption_of, case_left, case_right, case_both}
+use Rattle.proof_steps.specs.Steps.{numbered, when, fits, without, joined, may_resolve, resolvent, resolved, paramodulated, sides_of, reflexed, equality_factored, conclude, concluded, of_one, of_two, of_three, resolution, factored, paramodulation, rewritten, reflection, equality_factoring, factored_sides, assumed, assumption_of, case_left, case_right, case_both}
 
 abbrev pub IsInOrder : Clause → Type 0
 IsInOrder c = (x : Clause) × (c ≡ in_order x)

@@ -11,36 +11,12 @@ use Rattle.proof_steps.specs.Steps.{numbered}
 use Rattle.worker_cases.specs.declared.filing.Entry.{Entry}
 use Rattle.worker_cases.specs.declared.filing.Filing.{Filing}
 use Rattle.worker_cases.specs.Partners.{is_in}
-use Rattle.worker_cases.specs.Filing.{key, before_arrow, after_arrow, HasKey, IsNewest, IsLinked, IsFiled, IsAdded}
-use Rattle.worker_cases.specs.Partners.{HasAtoms, HasClause, FilesOnly, HasValues, HasValuesOf, HasPartners, AreFiledValues, AddsValues}
-use Rattle.worker_cases.proofs.FilingLemmas.{filed_left, numbered_snoc, numbered_last, numbered_within, numbered_there}
+use Rattle.worker_cases.specs.Filing.{key, before_arrow, after_arrow, HasKey, IsNewest, IsLinked, IsFiled, IsAdded, FilesOnly}
+use Rattle.worker_cases.specs.Partners.{HasAtoms, HasClause, HasValues, HasValuesOf, HasPartners, AreFiledValues, AddsValues}
+use Rattle.worker_cases.proofs.FilingLemmas.{files_self, files_more, files_added, filed_added, numbered_within, numbered_there}
 use Rattle.worker_cases.proofs.Lists.{member_last, member_more, member_cases}
 
 -- ---- filing
-
-pub files_self : (es : List Entry) (value : ℕ) → FilesOnly es es value
-files_self es value = record { keeps = λ k v h. h; only = λ k v h. inl h }
-
-pub files_more : (a b c : List Entry) (value : ℕ) → FilesOnly a b value → FilesOnly b c value → FilesOnly a c value
-files_more a b c value f g = record {
-  keeps = λ k v h. g.keeps k v (f.keeps k v h);
-  only = λ k v h. elim (g.only k v h) [ inl e ↦ f.only k v e | inr e ↦ inr e ];
-}
-
-files_snoc : (es : List Entry) (e : Entry) → FilesOnly es (es ++ e ∷ []) e.value
-files_snoc es e = record {
-  keeps = λ k v h. filed_left es e k v h;
-  only = λ k v h. elim (numbered_snoc es e h.0 h.1 h.2) [
-    | inl b ↦ inl (h.0, h.1, b.1, h.3, h.4)
-    | inr a ↦ inr (sym h.4 ∙ ap (λ (f : Entry). f.value) (sym a.1))
-  ];
-}
-
-files_added : (old new : List Entry) (key value : ℕ) → IsAdded old new key value → FilesOnly old new value
-files_added old new key value a = subst (λ es. FilesOnly old es value) (sym a.last) (files_snoc old (record { key = key; value = value; older = a.older }))
-
-filed_added : (old new : List Entry) (key value : ℕ) → IsAdded old new key value → IsFiled new key value
-filed_added old new key value a = subst (λ es. IsFiled es key value) (sym a.last) (length old + 1, _, numbered_last old (record { key = key; value = value; older = a.older }), refl, refl)
 
 -- the first atoms were filed
 pub record IsFilingAtoms (old new : Filing) (side : ℕ) (atoms : List Atom) (value i : ℕ) : Type 0 where

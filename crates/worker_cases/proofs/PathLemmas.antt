@@ -1,5 +1,5 @@
 -- Paths: what was activated at a node of the path is listed at the node.
-use Rattle.std.proofs.Common.{◌≡◌, ℕ, ◌+◌, ◌<◌, inl, inr, Bool, true, false, ◌||◌, ◌&&◌, eqb, List, [], ◌∷◌, Option, Some, None, refl, sym, subst, ◌∙◌, ap, arith}
+use Rattle.std.proofs.Common.{◌≡◌, ℕ, ◌<◌, inl, inr, true, ◌||◌, eqb, List, [], ◌∷◌, Option, Some, None, ◌∙◌, ap}
 use Rattle.std.proofs.lemmas.Bool.{or_cases, or_right, and_parts, eqb-true, false≢true}
 use Rattle.split_tree.specs.declared.event.Entry.{Entry}
 use Rattle.split_tree.specs.declared.event.Event.{Event}

@@ -1,27 +1,22 @@
 -- What holds after the chosen clause was split.
-use Rattle.std.proofs.Common.{◌≡◌, ◌⊎◌, inl, inr, ℕ, zero, suc, ◌+◌, ◌<◌, ◌≤◌, ◌==◌, Bool, true, false, not, ◌&&◌, ◌||◌, eqb, List, [], ◌∷◌, ◌++◌, length, Option, Some, None, refl, sym, ap, ◌∙◌, subst, arith, length-append, eq-eqb}
-use Rattle.std.specs.List.{slice_get}
-use Rattle.std.proofs.lemmas.Bool.{or_cases, or_left, or_right, and_parts, eqb-true, cases_Bool, cases_lt, false≢true}
+use Rattle.std.proofs.Common.{◌≡◌, inl, inr, ℕ, ◌<◌, Bool, true, not, eqb, List, ◌∷◌, Some, None, sym, ap, ◌∙◌, subst, arith, length-append, eq-eqb}
+use Rattle.std.proofs.lemmas.Bool.{or_cases, or_right, and_parts, eqb-true, cases_lt}
 use Rattle.proof_steps.specs.declared.step.Line.{Line}
 use Rattle.split_tree.specs.declared.event.Entry.{Entry}
-use Rattle.split_tree.specs.declared.event.Event.{Event}
 use Rattle.split_tree.specs.declared.event.Event.TheVariants.{Split}
-use Rattle.split_tree.specs.Journal.{Setting, ledger, nodes, nodes_of}
+use Rattle.split_tree.specs.Journal.{Setting, ledger, nodes, steps}
 use Rattle.split_tree.specs.Paths.{stem, on_path, is_leaf}
-use Rattle.split_tree.specs.Facts.{worked, chosen, claimed, IsDead, IsLive}
-use Rattle.split_tree.specs.Ending.{first_end, or_else}
-use Rattle.split_tree.specs.Legal.{IsLegalJournal, IsSettled, IsAsked}
+use Rattle.split_tree.specs.Facts.{listed, lists, IsLive}
+use Rattle.split_tree.specs.Ending.{or_else}
+use Rattle.split_tree.specs.Legal.{IsLegalJournal, IsSettled}
 use Rattle.split_tree.proofs.Climb.{on_path-self, stem_old, stem_high, not_true}
-use Rattle.split_tree.proofs.Places.{stem_there}
+use Rattle.split_tree.proofs.Places.{stem_there, lists_new}
 use Rattle.split_tree.proofs.States.{fresh_chosen}
-use Rattle.split_tree.proofs.Lists.{get_left}
 use Rattle.backjump.proofs.Deaths.{dead_after}
 use Rattle.worker_cases.specs.declared.index.Activation.{Activation}
 use Rattle.worker_cases.specs.declared.index.Index.{Index}
-use Rattle.worker_cases.specs.Covering.{IsNumber}
-use Rattle.worker_cases.specs.Working.{HasActivations, IsActivation, IsIndex, IsWhole, IsBusy, IsBetween, IsSound, nothing_else}
-use Rattle.worker_cases.proofs.VainLemmas.{literals_grow}
-use Rattle.worker_cases.proofs.IndexLemmas.{first_keeps, filed_first}
+use Rattle.worker_cases.proofs.LineLemmas.{lines_keep}
+use Rattle.worker_cases.specs.Working.{HasLines, HasActivations, IsIndex, IsWhole, IsBusy, IsBetween, IsSound, nothing_else}
 
 abbrev pub split_entry : ℕ → List Line → List Bool → Entry
 split_entry m lines put_off = record { by = 1; event = Split m lines put_off }
@@ -58,15 +53,23 @@ split_activations s past m clause lines put_off activations busy legal h =
           ((n.0.0, omega (arith, n.0.1, length-append (ledger s past) lines)), omega (arith, n.1));
     }
 
-pub split_index : (s : Setting) (past : List Entry) (m clause : ℕ) (lines : List Line) (put_off : List Bool) (index : Index) → IsBusy s past m clause → IsLegalJournal s (split_entry m lines put_off ∷ past) → IsWhole s past index nothing_else → IsIndex s (split_entry m lines put_off ∷ past) index
-split_index s past m clause lines put_off index busy legal h =
-    let same : (k : ℕ) → k < length (ledger s past) → slice_get (ledger s past ++ lines) k ≡ slice_get (ledger s past) k = λ k low. get_left (ledger s past) lines k low in
-    record {
-      lines = first_keeps (ledger s past) (ledger s past ++ lines) index.clauses same (omega (arith, h.lines.whole)) (filed_first (ledger s past) index.clauses h.lines);
-      few = omega (arith, h.lines.whole, length-append (ledger s past) lines);
-      activations = split_activations s past m clause lines put_off index.activations.items busy legal h.activations;
-      literals = literals_grow (ledger s past) (ledger s past ++ lines) index.activations.items index.literals (omega (arith, length-append (ledger s past) lines)) same (λ p a found. (h.activations.numbers p a found).0) h.literals;
-    }
+split_lines : (s : Setting) (past : List Entry) (m : ℕ) (lines : List Line) (put_off : List Bool) (numbers : List ℕ) (count : ℕ) → IsLive s past m → IsLegalJournal s (split_entry m lines put_off ∷ past) → HasLines s past numbers count → HasLines s (split_entry m lines put_off ∷ past) numbers count
+split_lines s past m lines put_off numbers count live_m legal h =
+    let e = split_entry m lines put_off in
+    lines_keep s past (e ∷ past) numbers count (omega (arith, length-append (ledger s past) lines))
+    (λ n low live. record {
+      node = stem e.event (nodes past) live.node;
+      there = stem_there s past legal.1 1 e.event live.node legal.0.asked live.there;
+      live = up_live s past m live.node lines put_off live_m live.live;
+      lists = elim (or_cases (lists e.event (nodes past) (steps s past) (on_path past live.node) live.node n) (listed s past (stem e.event (nodes past) live.node) n) live.lists) [
+        | inl now ↦ absurd (omega (arith, low, (lists_new s past 1 e.event (nodes past) (on_path past live.node) live.node n legal.0.asked now).0))
+        | inr before ↦ before
+      ];
+    })
+    h
+
+pub split_index : (s : Setting) (past : List Entry) (m clause : ℕ) (lines : List Line) (put_off : List Bool) (index : Index) → IsBusy s past m clause → IsLegalJournal s (split_entry m lines put_off ∷ past) → IsWhole s past m index nothing_else → IsIndex s (split_entry m lines put_off ∷ past) index
+split_index s past m clause lines put_off index busy legal h = record { kept = split_lines s past m lines put_off index.lines.items index.seen busy.working.holds.live legal h.kept; activations = split_activations s past m clause lines put_off index.activations.items busy legal h.activations }
 
 -- ---- between two cases
 

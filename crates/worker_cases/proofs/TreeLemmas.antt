@@ -1,24 +1,22 @@
 -- Events that make no node and close no case leave the tree as it was.
-use Rattle.std.proofs.Common.{◌≡◌, ◌⊎◌, inl, inr, ℕ, zero, suc, ◌+◌, ◌<◌, ◌≤◌, ◌==◌, Bool, true, false, ◌&&◌, ◌||◌, List, [], ◌∷◌, ◌++◌, length, Option, Some, None, refl, sym, ap, ◌∙◌, subst, arith, length-append, eq-eqb}
-use Rattle.std.specs.Prelude.{nat_lt, nat_le, slice_get}
-use Rattle.std.proofs.lemmas.Bool.{or_cases, or_left, or_right, and_parts, and_from, eqb-true, ltb-true, lt-ltb, false≢true}
+use Rattle.std.proofs.Common.{◌≡◌, ◌⊎◌, inl, inr, ℕ, ◌+◌, ◌<◌, ◌==◌, Bool, true, false, ◌&&◌, List, [], ◌∷◌, ◌++◌, length, Some, refl, sym, ap, ◌∙◌, subst, arith, length-append, eq-eqb}
+use Rattle.std.specs.Prelude.{nat_lt, slice_get}
+use Rattle.std.proofs.lemmas.Bool.{or_cases, or_left, or_right, and_parts, and_from, eqb-true, lt-ltb, false≢true}
 use Rattle.std.proofs.lemmas.List.{append-nil}
 use Rattle.spl_terms.specs.Clauses.{is_empty}
 use Rattle.proof_steps.specs.declared.step.Line.{Line}
 use Rattle.proof_steps.specs.Steps.{numbered}
 use Rattle.split_tree.specs.declared.event.Entry.{Entry}
 use Rattle.split_tree.specs.declared.event.Event.{Event}
-use Rattle.split_tree.specs.declared.event.Event.TheVariants.{Claim, Choose, Publish, Split, Activate, Saturated, Spent, Big, Full, Stop}
-use Rattle.split_tree.specs.declared.branch.Branch.{Branch}
+use Rattle.split_tree.specs.declared.event.Event.TheVariants.{Publish, Split}
 use Rattle.split_tree.specs.Journal.{Setting, ledger, nodes, steps}
 use Rattle.split_tree.specs.Paths.{is_leaf, branch, on_path}
-use Rattle.split_tree.specs.Facts.{listed, IsEmptyAt, IsDead, IsLive}
+use Rattle.split_tree.specs.Facts.{listed, IsEmptyAt, IsDead}
 use Rattle.split_tree.specs.Legal.{IsLegalJournal, IsSettled}
 use Rattle.split_tree.proofs.Homes.{listed_within}
-use Rattle.worker_cases.specs.Covering.{Listing, Grows}
+use Rattle.worker_cases.specs.Covering.{Grows}
 use Rattle.worker_cases.specs.Working.{listing}
-use Rattle.worker_cases.proofs.FilingLemmas.{numbered_left, numbered_last, numbered_snoc}
-use Rattle.worker_cases.proofs.CoverLemmas.{grows_self}
+use Rattle.worker_cases.proofs.FilingLemmas.{numbered_left, numbered_last}
 use Rattle.worker_cases.proofs.Lists.{get_left}
 
 pub record KeepsTree (s : Setting) (old new : List Entry) : Type 0 where

@@ -1,5 +1,5 @@
 -- Lines that no atom leads to have no conclusion with a line.
-use Rattle.std.proofs.Common.{◌≡◌, ◌⊎◌, inl, inr, ℕ, zero, suc, Bool, true, false, ◌&&◌, List, [], ◌∷◌, ◌++◌, length, ◌<◌, ◌≤◌, Option, Some, None, option_map, refl, sym, ap, ◌∙◌, subst, arith, length-append}
+use Rattle.std.proofs.Common.{◌≡◌, ◌⊎◌, inl, inr, ℕ, zero, suc, Bool, true, false, ◌&&◌, List, [], Option, Some, None, option_map, refl, sym, ap, ◌∙◌, subst}
 use Rattle.std.specs.List.{slice_get}
 use Rattle.spl_terms.specs.declared.atom.Atom.{Atom}
 use Rattle.spl_terms.specs.declared.atom.Atom.TheVariants.{Holds, Equal}
@@ -14,14 +14,12 @@ use Rattle.proof_steps.specs.declared.step.Statement.{Statement}
 use Rattle.proof_steps.specs.declared.step.Line.{Line}
 use Rattle.proof_steps.specs.Steps.{numbered, both_same, may_resolve, is_negative}
 use Rattle.proof_steps.specs.Checked.{stated}
-use Rattle.worker_cases.specs.declared.filing.Entry.{Entry}
 use Rattle.worker_cases.specs.declared.filing.Filing.{Filing}
-use Rattle.worker_cases.specs.declared.index.Activation.{Activation}
 use Rattle.worker_cases.specs.Partners.{is_in}
-use Rattle.worker_cases.specs.Covering.{Listing, IsNumber, IsCoveredPair, Grows}
-use Rattle.worker_cases.specs.Filing.{key, before_arrow, after_arrow, IsFiled, IsLinked}
-use Rattle.worker_cases.specs.Partners.{side, other_side, HasClause, FilesOnly, HasLiterals, HasPartners}
-use Rattle.worker_cases.proofs.Lists.{get_snoc}
+use Rattle.worker_cases.specs.Covering.{Listing, IsNumber, IsCoveredPair}
+use Rattle.worker_cases.specs.Filing.{key, before_arrow, after_arrow, IsFiled, IsLinked, FilesWanted}
+use Rattle.worker_cases.specs.Partners.{side, other_side, HasClause, HasLiterals, HasPartners}
+use Rattle.worker_cases.proofs.FilingLemmas.{none_filed}
 use Rattle.worker_cases.proofs.CoverLemmas.{get_map, places_of}
 
 -- ---- atoms that are the same have one key
@@ -78,23 +76,23 @@ line_at lines (suc k) s e = go (slice_get lines k) refl (sym (get_map lines k) �
 
 -- ---- a given line that isn't among the partners has no conclusion
 
-module _ (at : Listing) (activations : List Activation) (literals : Filing) (number : ℕ) (places : List ℕ) (h : HasLiterals at.lines activations literals) (has : (l : Line) → numbered at.lines number ≡ Some l → HasPartners literals.entries.items l.stated.clause places) (k : ℕ) (a : Activation) (there : slice_get activations k ≡ Some a) (other : is_in places k ≡ false) where
-  in_vain : (part part2 : Part) (j i : ℕ) (c b : Atom) (s t : Statement) → numbered (stated at.lines) a.clause ≡ Some s → numbered (stated at.lines) number ≡ Some t → slice_get (part_of s.clause part) j ≡ Some b → slice_get (part_of t.clause part2) i ≡ Some c → other_side part2 ≡ side part → is_same c b ≡ true → ⊥
+module _ (at : Listing) (given : ℕ → Type 0) (literals : Filing) (number : ℕ) (numbers : List ℕ) (h : HasLiterals at.lines given literals) (has : (l : Line) → numbered at.lines number ≡ Some l → HasPartners literals.entries.items l.stated.clause numbers) (n : ℕ) (there : given n) (other : is_in numbers n ≡ false) where
+  in_vain : (part part2 : Part) (j i : ℕ) (c b : Atom) (s t : Statement) → numbered (stated at.lines) n ≡ Some s → numbered (stated at.lines) number ≡ Some t → slice_get (part_of s.clause part) j ≡ Some b → slice_get (part_of t.clause part2) i ≡ Some c → other_side part2 ≡ side part → is_same c b ≡ true → ⊥
   in_vain part part2 j i c b s t hs ht hb ha sides same =
-      let ls = line_at at.lines a.clause s hs in
+      let ls = line_at at.lines n s hs in
       let lt = line_at at.lines number t ht in
-      let filed : IsFiled literals.entries.items (key (side part) b) k = h.atoms k a ls.0 there ls.1 part j b (ap (λ (s : Statement). slice_get (part_of s.clause part) j) ls.2 ∙ hb) in
+      let filed : IsFiled literals.entries.items (key (side part) b) n = h.atoms n ls.0 there ls.1 part j b (ap (λ (s : Statement). slice_get (part_of s.clause part) j) ls.2 ∙ hb) in
       let keys : key (side part) b ≡ key (other_side part2) c = sym (same_key (side part) c b same) ∙ ap (λ s. key s c) (sym sides) in
-      let found : is_in places k ≡ true = has lt.0 lt.1 part2 i c (ap (λ (s : Statement). slice_get (part_of s.clause part2) i) lt.2 ∙ ha) k (subst (λ q. IsFiled literals.entries.items q k) keys filed) in
+      let found : is_in numbers n ≡ true = has lt.0 lt.1 part2 i c (ap (λ (s : Statement). slice_get (part_of s.clause part2) i) lt.2 ∙ ha) n (subst (λ q. IsFiled literals.entries.items q n) keys filed) in
       (let z : true ≡ false = sym found ∙ other in cc)
 
-  pub vain_pairs : IsNumber at.lines a.clause → IsNumber at.lines number → IsCoveredPair at a.clause number × IsCoveredPair at number a.clause
+  pub vain_pairs : IsNumber at.lines n → IsNumber at.lines number → IsCoveredPair at n number × IsCoveredPair at number n
   vain_pairs hx hn = (
     record {
       left = hx;
       right = hn;
       covers = λ i part j s e.
-          let w = places_of i part j (numbered (stated at.lines) a.clause) (numbered (stated at.lines) number) s e in
+          let w = places_of i part j (numbered (stated at.lines) n) (numbered (stated at.lines) number) s e in
           let m = meet i part j w.p.clause w.q.clause (as_they_stand i part j w.p.clause w.q.clause w.may) in
           absurd (in_vain Succedent part i j m.b m.a w.p w.q w.left w.right m.left m.right (negative_side part m.negative).1 (same_turned m.a m.b m.same));
     },
@@ -102,45 +100,41 @@ module _ (at : Listing) (activations : List Activation) (literals : Filing) (num
       left = hn;
       right = hx;
       covers = λ i part j s e.
-          let w = places_of i part j (numbered (stated at.lines) number) (numbered (stated at.lines) a.clause) s e in
+          let w = places_of i part j (numbered (stated at.lines) number) (numbered (stated at.lines) n) s e in
           let m = meet i part j w.p.clause w.q.clause (as_they_stand i part j w.p.clause w.q.clause w.may) in
           absurd (in_vain part Succedent j i m.a m.b w.q w.p w.right w.left m.right m.left (sym (negative_side part m.negative).0) m.same);
     },
   )
 
--- ---- the literals of the activated clauses
+-- ---- the literals of the given lines
 
-pub literals_grow : (old new : List Line) (activations : List Activation) (literals : Filing) → length old ≤ length new → ((k : ℕ) → k < length old → slice_get new k ≡ slice_get old k) → ((k : ℕ) (a : Activation) → slice_get activations k ≡ Some a → IsNumber old a.clause) → HasLiterals old activations literals → HasLiterals new activations literals
-literals_grow old new activations literals longer same numbers h = record {
+-- the same lines are given
+pub literals_keep : (old new : List Line) (given now : ℕ → Type 0) (literals : Filing) → ((n : ℕ) → given n → now n) → ((n : ℕ) → now n → given n) → ((n : ℕ) → given n → numbered new n ≡ numbered old n) → HasLiterals old given literals → HasLiterals new now literals
+literals_keep old new given now literals to back same h = record {
   linked = h.linked;
-  atoms = λ k a l at f. h.atoms k a l at (sym (kept a.clause (numbers k a at)) ∙ f);
-  only = h.only;
-}
-  where
-    kept : (n : ℕ) → IsNumber old n → numbered new n ≡ numbered old n
-    kept zero w = absurd (omega (arith, w.0))
-    kept (suc j) w = same j (omega (arith, w.1))
-
-pub literals_more : (lines : List Line) (activations : List Activation) (a : Activation) (old new : Filing) → HasLiterals lines activations old → IsLinked new → FilesOnly old.entries.items new.entries.items (length activations) → ((l : Line) → numbered lines a.clause ≡ Some l → HasClause new.entries.items l.stated.clause (length activations)) → HasLiterals lines (activations ++ a ∷ []) new
-literals_more lines activations a old new h linked files own = record {
-  linked = linked;
-  atoms = λ k b l at f. elim (get_snoc activations a k b at) [
-    | inl before ↦ (λ part i c is. files.keeps (key (side part) c) k (h.atoms k b l before.1 f part i c is))
-    | inr here ↦ subst (HasClause new.entries.items l.stated.clause) (sym here.0) (own l (ap (λ (b : Activation). numbered lines b.clause) here.1 ∙ f))
-  ];
-  only = λ q v f. elim (files.only q v f) [
-    | inl before ↦ omega (arith, h.only q v before, length-append activations (a ∷ []))
-    | inr here ↦ omega (arith, here, length-append activations (a ∷ []))
-  ];
+  atoms = λ n l one is. h.atoms n l (back n one) (sym (same n (back n one)) ∙ is);
+  only = λ q n f. to n (h.only q n f);
 }
 
-pub no_literals : (lines : List Line) (literals : Filing) → literals.entries.items ≡ [] → IsLinked literals → HasLiterals lines [] literals
-no_literals lines literals empty linked = record {
+-- one more line is given, where it is wanted
+pub literals_more : (lines : List Line) (given now : ℕ → Type 0) (number : ℕ) (b : Bool) (old new : Filing) → HasLiterals lines given old → IsLinked new → FilesWanted b old.entries.items new.entries.items number
+    → ((l : Line) → b ≡ true → numbered lines number ≡ Some l → HasClause new.entries.items l.stated.clause number)
+    → ((n : ℕ) → given n → now n) → (b ≡ true → now number) → ((n : ℕ) → now n → given n ⊎ ((n ≡ number) × (b ≡ true))) → HasLiterals lines now new
+literals_more lines given now number b old new h linked files own to here back = record {
   linked = linked;
-  atoms = λ k a l at f. absurd (cc);
-  only = λ q v f. absurd (nothing f.0 f.1 (subst (λ es. numbered es f.0 ≡ Some f.1) empty f.2));
+  atoms = λ n l one is. elim (back n one) [
+    | inl before ↦ (λ part i c at. files.keeps (key (side part) c) n (h.atoms n l before is part i c at))
+    | inr last ↦ subst (HasClause new.entries.items l.stated.clause) (sym last.0) (own l last.1 (ap (numbered lines) (sym last.0) ∙ is))
+  ];
+  only = λ q n f. elim (files.only q n f) [
+    | inl before ↦ to n (h.only q n before)
+    | inr last ↦ subst now (sym last.0) (here last.1)
+  ];
 }
-  where
-    nothing : (n : ℕ) (e : Entry) → numbered [] n ≡ Some e → ⊥
-    nothing zero e h = cc
-    nothing (suc k) e h = cc
+
+pub no_literals : (lines : List Line) (given : ℕ → Type 0) (literals : Filing) → literals.entries.items ≡ [] → IsLinked literals → ((n : ℕ) → given n → ⊥) → HasLiterals lines given literals
+no_literals lines given literals empty linked none = record {
+  linked = linked;
+  atoms = λ n l one is. absurd (none n one);
+  only = λ q n f. absurd (none_filed literals.entries.items q n empty f);
+}

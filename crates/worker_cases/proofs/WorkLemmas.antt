@@ -1,15 +1,13 @@
 -- Working off the chosen clause, and what is filed after each event.
-use Rattle.std.proofs.Common.{◌≡◌, ◌⊎◌, inl, inr, ℕ, zero, suc, ◌+◌, ◌<◌, ◌≤◌, ◌==◌, Bool, true, false, ◌&&◌, ◌||◌, List, [], ◌∷◌, ◌++◌, length, Option, Some, None, refl, sym, ap, ◌∙◌, subst, arith}
+use Rattle.std.proofs.Common.{◌≡◌, ◌⊎◌, inl, inr, ℕ, ◌+◌, ◌<◌, ◌≤◌, Bool, true, false, ◌&&◌, List, ◌∷◌, length, Some, None, refl, sym, ap, ◌∙◌, subst, arith}
 use Rattle.std.specs.List.{slice_get}
-use Rattle.std.proofs.lemmas.Bool.{or_cases, or_right, and_parts, eqb-true, cases_Bool, cases_lt, false≢true}
+use Rattle.std.proofs.lemmas.Bool.{or_cases, or_right, and_parts, cases_Bool, cases_lt, false≢true}
 use Rattle.std.proofs.lemmas.Option.{slice_get_within}
-use Rattle.spl_terms.specs.declared.clause.Part.{Part}
 use Rattle.spl_terms.specs.declared.clause.Clause.{Clause}
-use Rattle.proof_steps.specs.declared.step.Statement.{Statement}
 use Rattle.proof_steps.specs.declared.step.Line.{Line}
 use Rattle.proof_steps.specs.Steps.{numbered}
 use Rattle.proof_steps.specs.Checked.{resolution_of_lines}
-use Rattle.proof_steps.specs.Covering.{IsSubsumedByOne, IsCoveredBy, AreCoveredBy}
+use Rattle.proof_steps.specs.Covering.{IsCoveredBy}
 use Rattle.split_tree.specs.declared.event.Entry.{Entry}
 use Rattle.split_tree.specs.declared.event.Event.{Event}
 use Rattle.split_tree.specs.declared.event.Event.TheVariants.{Claim, Choose, Activate}
@@ -17,23 +15,28 @@ use Rattle.split_tree.specs.State.{State}
 use Rattle.split_tree.specs.Journal.{Setting, ledger, nodes, rounds}
 use Rattle.split_tree.specs.Paths.{on_path}
 use Rattle.split_tree.specs.Facts.{listed, worked, chosen, is_number, IsLive, before_choice}
-use Rattle.split_tree.specs.Legal.{IsPair, IsPremise, IsPartner, IsListed, IsUnsplit, AreInferencesCovered}
+use Rattle.split_tree.specs.Legal.{IsPremise, IsListed, IsUnsplit, AreInferencesCovered}
 use Rattle.split_tree.proofs.Climb.{leaf_path}
 use Rattle.split_tree.proofs.Homes.{listed_within}
+use Rattle.case_queue.specs.declared.queue.CaseQueue.{CaseQueue}
+use Rattle.case_queue.specs.Queues.{HasQueue}
 use Rattle.worker_cases.specs.declared.filing.Filing.{Filing}
-use Rattle.worker_cases.specs.Covering.{Listing, IsNumber, IsCovered, IsCoveredPair, Grows}
-use Rattle.worker_cases.specs.Filing.{HasFiled}
-use Rattle.worker_cases.specs.Partners.{is_in, HasLiterals, HasPartners}
+use Rattle.worker_cases.specs.Covering.{IsNumber, IsCovered, IsCoveredPair}
+use Rattle.worker_cases.specs.Filing.{HasFiled, IsLinked, FilesOnly}
+use Rattle.worker_cases.specs.Partners.{is_in, HasClause, HasLiterals, HasPartners, AreFiledValues}
 use Rattle.worker_cases.specs.declared.index.Activation.{Activation}
 use Rattle.worker_cases.specs.declared.index.Index.{Index}
-use Rattle.worker_cases.specs.Working.{listing, IsBusy, ArePartners, AreAllPartners, AreGathered, IsActivation, HasActivations, IsMate, KeepsWork, IsStep, IsIndex, IsWhole, nothing_else, pending}
+use Rattle.worker_cases.specs.Working.{listing, HasLines, IsIdle, IsBusy, ArePartners, AreAllPartners, IsActivation, IsGiven, HasActivations, IsMate, KeepsWork, IsStep, IsIndex, IsWhole, nothing_else, pending}
 use Rattle.worker_cases.proofs.Lists.{member_place}
+use Rattle.worker_cases.proofs.FilingLemmas.{wanted}
 use Rattle.worker_cases.proofs.PathLemmas.{worked_listed, same_paths}
 use Rattle.worker_cases.proofs.CoverLemmas.{pair_grows, number_keeps}
-use Rattle.worker_cases.proofs.VainLemmas.{vain_pairs}
-use Rattle.worker_cases.proofs.IndexLemmas.{activations_keep, index_keeps}
+use Rattle.worker_cases.proofs.VainLemmas.{vain_pairs, literals_keep, literals_more}
+use Rattle.worker_cases.proofs.LineLemmas.{lines_keep}
+use Rattle.worker_cases.proofs.IndexLemmas.{index_keeps, whole_keeps}
+use Rattle.worker_cases.proofs.QueueLemmas.{choice_queue, activation_queue}
 use Rattle.worker_cases.proofs.TreeLemmas.{SameListing, quiet_listing, quiet_tree}
-use Rattle.worker_cases.proofs.EventLemmas.{step_self, step_more, after_claim, after_choice, after_activation, number_is, worked_own}
+use Rattle.worker_cases.proofs.EventLemmas.{step_self, step_more, after_claim, after_choice, after_activation, number_is, worked_cases, worked_old, worked_own}
 
 -- ---- mates
 
@@ -57,44 +60,29 @@ mates s past m clause x h partners given =
 -- ---- the partners of the clause
 
 -- what was filed and found for the clause that is about to be activated
-pub all_partners : (s : Setting) (past : List Entry) (m clause : ℕ) (activations : List Activation) (literals : Filing) (places numbers : List ℕ) → IsBusy s past m clause → (let acts = activations ++ record { clause = clause; node = m } ∷ [] in HasActivations s past acts (pending m clause) → HasLiterals (ledger s past) acts literals
-    → ((l : Line) → numbered (ledger s past) clause ≡ Some l → HasPartners literals.entries.items l.stated.clause places) → ((x : ℕ) → is_in numbers x ≡ true → IsActivation past acts m x) → AreGathered past acts m places numbers → AreAllPartners s past m clause numbers)
-all_partners s past m clause activations literals places numbers busy h l all given gathered =
-    let acts = activations ++ record { clause = clause; node = m } ∷ [] in
-    let w = busy.working in
-    record {
-      given = λ x e.
-          let a = given x e in
-          elim (h.only a.place m a.at a.found w.there w.holds.live a.on) [
-            | inl on ↦ inl (subst (λ n. worked past m n ≡ true) a.is on)
-            | inr own ↦ inr (sym a.is ∙ own.1)
-          ];
-      apart = λ x e out.
-          let a : IsActivation past acts m x = elim e [
-            | inl on ↦ h.complete m x w.there w.holds.live (inl on)
-            | inr own ↦ h.complete m x w.there w.holds.live (inr (refl, own))
-          ] in
-          let other : is_in places a.place ≡ false = elim (cases_Bool (is_in places a.place)) [
-            | inl in' ↦ absurd (let y : true ≡ false = sym (gathered a.place a.at in' a.found a.on) ∙ ap (is_in numbers) a.is ∙ out in cc)
-            | inr out' ↦ out'
-          ] in
-          let own = number_of s past m clause clause busy busy.lists in
-          subst (λ n. IsCoveredPair (listing s past m) n clause × IsCoveredPair (listing s past m) clause n) a.is
-          (vain_pairs (listing s past m) acts literals clause places l all a.place a.at a.found other (h.numbers a.place a.at a.found).0 own);
-    }
+pub all_partners : (s : Setting) (past : List Entry) (m clause : ℕ) (literals : Filing) (numbers : List ℕ) → IsBusy s past m clause → ((n : ℕ) → IsGiven past (pending m clause) m n → IsNumber (ledger s past) n) → HasLiterals (ledger s past) (IsGiven past (pending m clause) m) literals
+    → ((l : Line) → numbered (ledger s past) clause ≡ Some l → HasPartners literals.entries.items l.stated.clause numbers) → AreFiledValues literals.entries.items numbers → AreAllPartners s past m clause numbers
+all_partners s past m clause literals numbers busy are l all filed = record {
+  given = λ x e.
+      let f = filed x e in
+      elim (l.only f.0 x f.1) [ inl on ↦ inl on | inr own ↦ inr own.1 ];
+  apart = λ x e out.
+      let given : IsGiven past (pending m clause) m x = elim e [ inl on ↦ inl on | inr own ↦ inr (refl, own) ] in
+      vain_pairs (listing s past m) (IsGiven past (pending m clause) m) literals clause numbers l all x given out (are x given) (number_of s past m clause clause busy busy.lists);
+}
 
 -- ---- one partner after another
 
 pub record IsWorkingOff (start now : State) (m clause : ℕ) (kept : Index) (partners : List ℕ) (count : ℕ) : Type 0 where
   pub step : IsStep start now m clause
-  pub index : IsWhole now.setting now.past kept (pending m clause)
+  pub index : IsWhole now.setting now.past m kept (pending m clause)
   pub rounds : rounds now.past ≡ rounds start.past
   pub covers : (k x : ℕ) → k < count → slice_get partners k ≡ Some x → IsCoveredPair (listing now.setting now.past m) x clause × IsCoveredPair (listing now.setting now.past m) clause x
 
-pub off_starts : (t : State) (m clause : ℕ) (index : Index) (partners : List ℕ) → IsBusy t.setting t.past m clause → IsWhole t.setting t.past index (pending m clause) → IsWorkingOff t t m clause index partners 0
+pub off_starts : (t : State) (m clause : ℕ) (index : Index) (partners : List ℕ) → IsBusy t.setting t.past m clause → IsWhole t.setting t.past m index (pending m clause) → IsWorkingOff t t m clause index partners 0
 off_starts t m clause index partners h i = record { step = step_self t m clause h; index = i; rounds = refl; covers = λ k x low e. absurd (omega (arith, low)) }
 
-pub off_more : (start a b : State) (m clause : ℕ) (old new : Index) (partners : List ℕ) (i x : ℕ) → IsWorkingOff start a m clause old partners i → IsStep a b m clause → IsWhole b.setting b.past new (pending m clause) → rounds b.past ≡ rounds a.past → slice_get partners i ≡ Some x → IsCoveredPair (listing b.setting b.past m) x clause × IsCoveredPair (listing b.setting b.past m) clause x → IsWorkingOff start b m clause new partners (i + 1)
+pub off_more : (start a b : State) (m clause : ℕ) (old new : Index) (partners : List ℕ) (i x : ℕ) → IsWorkingOff start a m clause old partners i → IsStep a b m clause → IsWhole b.setting b.past m new (pending m clause) → rounds b.past ≡ rounds a.past → slice_get partners i ≡ Some x → IsCoveredPair (listing b.setting b.past m) x clause × IsCoveredPair (listing b.setting b.past m) clause x → IsWorkingOff start b m clause new partners (i + 1)
 off_more start a b m clause old new partners i x h step whole same_rounds at covered = record {
   step = step_more start a b m clause h.step step;
   index = whole;
@@ -165,10 +153,22 @@ unsplit_more old new m clause busy f h = record {
 pub the_line : (lines : List Line) (n : ℕ) (l k : Line) (P : Line → Type 0) → numbered lines n ≡ Some l → numbered lines n ≡ Some k → P l → P k
 the_line lines n l k P e f h = subst P (let x : Some l ≡ Some k = sym e ∙ f in cc) h
 
+-- the clause that is about to be activated was filed
+pub pending_literals : (s : Setting) (past : List Entry) (m clause : ℕ) (old new : Filing) (l : Line) → numbered (ledger s past) clause ≡ Some l → HasLiterals (ledger s past) (IsGiven past nothing_else m) old → IsLinked new → FilesOnly old.entries.items new.entries.items clause → HasClause new.entries.items l.stated.clause clause → HasLiterals (ledger s past) (IsGiven past (pending m clause) m) new
+pending_literals s past m clause old new l found h linked files own = literals_more (ledger s past) (IsGiven past nothing_else m) (IsGiven past (pending m clause) m) clause true old new h linked (wanted true old.entries.items new.entries.items clause refl files)
+    (λ k yes' at. the_line (ledger s past) clause l k (λ (x : Line). HasClause new.entries.items x.stated.clause clause) found at own)
+    (λ n g. elim g [ inl on ↦ inl on | inr none ↦ absurd none ])
+    (λ yes'. inr (refl, refl))
+    (λ n g. elim g [ inl on ↦ inl (inl on) | inr o ↦ inr (o.1, refl) ])
+
 -- ---- what is kept after an event that publishes nothing
 
-same_lines : (s : Setting) (old new : List Entry) (index : Index) → SameListing s old new → HasFiled (ledger s old) index.clauses → HasFiled (ledger s new) index.clauses
-same_lines s old new index same h = subst (λ ls. HasFiled ls index.clauses) (sym same.lines) h
+same_lines : (s : Setting) (old new : List Entry) (m : ℕ) (clauses : Filing) → SameListing s old new → HasFiled (listing s old m) clauses → HasFiled (listing s new m) clauses
+same_lines s old new m clauses same h = record {
+  linked = h.linked;
+  filed = λ n l on is. h.filed n l (sym (same.lists m n) ∙ on) (ap (λ ls. numbered ls n) (sym same.lines) ∙ is);
+  only = λ q n f. same.lists m n ∙ h.only q n f;
+}
 
 -- a clause that was about to be activated has been
 activated_activations : (s : Setting) (past : List Entry) (m clause : ℕ) (activations : List Activation) → IsBusy s past m clause → HasActivations s past activations (pending m clause) → HasActivations s (after_activation past m) activations nothing_else
@@ -199,14 +199,38 @@ activated_activations s past m clause activations busy h =
       numbers = λ p a found. let n = h.numbers p a found in (subst (λ ls. IsNumber ls a.clause) (sym same.lines) n.0, subst (λ x. a.node < x) (sym k.count) n.1);
     }
 
-pub activated_whole : (s : Setting) (past : List Entry) (m clause : ℕ) (index : Index) → IsBusy s past m clause → IsWhole s past index (pending m clause) → IsWhole s (after_activation past m) index nothing_else
-activated_whole s past m clause index busy h =
+activated_literals : (s : Setting) (past : List Entry) (m clause : ℕ) (literals : Filing) → IsBusy s past m clause → HasLiterals (ledger s past) (IsGiven past (pending m clause) m) literals → HasLiterals (ledger s (after_activation past m)) (IsGiven (after_activation past m) nothing_else m) literals
+activated_literals s past m clause literals busy h =
+    let new = after_activation past m in
     let same = quiet_listing s past 1 (Activate m) refl in
-    record {
-      lines = same_lines s past (after_activation past m) index same h.lines;
-      activations = activated_activations s past m clause index.activations.items busy h.activations;
-      literals = subst (λ ls. HasLiterals ls index.activations.items index.literals) (sym same.lines) h.literals;
-    }
+    literals_keep (ledger s past) (ledger s new) (IsGiven past (pending m clause) m) (IsGiven new nothing_else m) literals
+    (λ n g. elim g [
+      | inl on ↦ inl (worked_old past m n on)
+      | inr own ↦ inl (subst (λ x. worked new m x ≡ true) (sym own.1) (worked_own past m clause busy.chosen))
+    ])
+    (λ n g. elim g [
+      | inl on ↦ elim (worked_cases past m clause n busy.chosen on) [ inl before ↦ inl before | inr own ↦ inr (refl, own) ]
+      | inr none ↦ absurd none
+    ])
+    (λ n g. ap (λ ls. numbered ls n) same.lines)
+    h
+
+activated_lines : (s : Setting) (past : List Entry) (m : ℕ) (numbers : List ℕ) (count : ℕ) → HasLines s past numbers count → HasLines s (after_activation past m) numbers count
+activated_lines s past m numbers count h =
+    let k = quiet_tree s past 1 (Activate m) refl in
+    let same = quiet_listing s past 1 (Activate m) refl in
+    lines_keep s past (after_activation past m) numbers count (omega (arith, ap length same.lines))
+    (λ n low live. record { node = live.node; there = subst (λ x. live.node < x) k.count live.there; live = λ d. live.live (k.stays live.node d); lists = sym (same.lists live.node n) ∙ live.lists })
+    h
+
+pub activated_whole : (s : Setting) (past : List Entry) (m clause : ℕ) (index : Index) → IsBusy s past m clause → IsWhole s past m index (pending m clause) → IsWhole s (after_activation past m) m index nothing_else
+activated_whole s past m clause index busy h = record {
+  kept = activated_lines s past m index.lines.items index.seen h.kept;
+  lines = same_lines s past (after_activation past m) m index.clauses (quiet_listing s past 1 (Activate m) refl) h.lines;
+  activations = activated_activations s past m clause index.activations.items busy h.activations;
+  literals = activated_literals s past m clause index.literals busy h.literals;
+  queue = activation_queue s past m index.queue h.queue;
+}
 
 abbrev is_resting : Event → Bool
 is_resting (Claim node) = true
@@ -218,25 +242,18 @@ quiet_work : (s : Setting) (past : List Entry) (w : ℕ) (ev : Event) → is_res
 quiet_work s past w (Claim node) e =
     let k = quiet_tree s past w (Claim node) refl in
     let same = quiet_listing s past w (Claim node) refl in
-    record { count = k.count; paths = λ m n. same_paths past m n; worked = λ m n. refl; dead = λ m there d. k.stays m d; longer = omega (arith, ap length same.lines); lines = λ i low. ap (λ ls. slice_get ls i) same.lines }
+    record { count = k.count; paths = λ m n. same_paths past m n; worked = λ m n. refl; split = λ m n. refl; dead = λ m there d. k.stays m d; lists = λ m n low on. sym (same.lists m n) ∙ on; longer = omega (arith, ap length same.lines); lines = λ i low. ap (λ ls. slice_get ls i) same.lines }
 quiet_work s past w (Choose node clause selected) e =
     let k = quiet_tree s past w (Choose node clause selected) refl in
     let same = quiet_listing s past w (Choose node clause selected) refl in
-    record { count = k.count; paths = λ m n. same_paths past m n; worked = λ m n. refl; dead = λ m there d. k.stays m d; longer = omega (arith, ap length same.lines); lines = λ i low. ap (λ ls. slice_get ls i) same.lines }
+    record { count = k.count; paths = λ m n. same_paths past m n; worked = λ m n. refl; split = λ m n. refl; dead = λ m there d. k.stays m d; lists = λ m n low on. sym (same.lists m n) ∙ on; longer = omega (arith, ap length same.lines); lines = λ i low. ap (λ ls. slice_get ls i) same.lines }
 quiet_work s past w _ e = absurd (false≢true e)
 
-pub choice_whole : (s : Setting) (past : List Entry) (m clause : ℕ) (index : Index) → IsWhole s past index nothing_else → IsWhole s (after_choice past m clause) index nothing_else
-choice_whole s past m clause index h =
-    let same = quiet_listing s past 1 (Choose m clause None) refl in
-    record {
-      lines = same_lines s past (after_choice past m clause) index same h.lines;
-      activations = activations_keep s past (after_choice past m clause) index.activations.items nothing_else (quiet_work s past 1 (Choose m clause None) refl) h.activations;
-      literals = subst (λ ls. HasLiterals ls index.activations.items index.literals) (sym same.lines) h.literals;
-    }
+pub choice_whole : (s : Setting) (past : List Entry) (m clause : ℕ) (index : Index) (queue : CaseQueue) → IsIdle s past m → HasQueue s past m queue → IsWhole s past m index nothing_else → IsWhole s (after_choice past m clause) m (record { clauses = index.clauses; activations = index.activations; literals = index.literals; queue = queue; lines = index.lines; seen = index.seen }) nothing_else
+choice_whole s past m clause index queue idle queued h =
+    let new = after_choice past m clause in
+    whole_keeps s s past new m index index.clauses queue nothing_else refl (quiet_work s past 1 (Choose m clause None) refl) idle.working.there idle.working.holds.live
+    (same_lines s past new m index.clauses (quiet_listing s past 1 (Choose m clause None) refl) h.lines) (choice_queue s past m clause queue queued) h
 
 pub claim_index : (s : Setting) (past : List Entry) (m : ℕ) (index : Index) → IsIndex s past index → IsIndex s (after_claim past m) index
 claim_index s past m index h = index_keeps s past (after_claim past m) index (quiet_work s past 1 (Claim m) refl) h
-
--- where all lines are filed
-pub index_whole : (s : Setting) (past : List Entry) (index : Index) (clauses : Filing) → IsIndex s past index → HasFiled (ledger s past) clauses → IsWhole s past (record { clauses = clauses; activations = index.activations; literals = index.literals }) nothing_else
-index_whole s past index clauses h filed = record { lines = filed; activations = h.activations; literals = h.literals }

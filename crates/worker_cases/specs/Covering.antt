@@ -1,5 +1,5 @@
 -- Resolution conclusions that listed lines cover.
-use Rattle.std.specs.Prelude.{◌≡◌, ◌⊎◌, ℕ, ◌<◌, ◌≤◌, Bool, true, List, length, Some, slice_get}
+use Rattle.std.specs.Prelude.{◌≡◌, ◌⊎◌, ℕ, ◌<◌, ◌≤◌, Bool, true, List, [], ◌∷◌, ◌++◌, length, Some, slice_get}
 use Rattle.spl_terms.specs.declared.clause.Part.{Part}
 use Rattle.spl_terms.specs.declared.clause.Clause.{Clause}
 use Rattle.spl_truth.specs.Redundancy.{is_tautology, Subsumes}
@@ -48,3 +48,10 @@ pub record Grows (old new : Listing) : Type 0 where
   pub longer : length old.lines ≤ length new.lines
   pub keeps : (k : ℕ) → k < length old.lines → slice_get new.lines k ≡ slice_get old.lines k
   pub lists : (n : ℕ) → old.lists n ≡ true → new.lists n ≡ true
+
+-- one line was added at the end and is listed; else the same lines are listed as before
+pub record AddsLine (old new : Listing) (l : Line) : Type 0 where
+  pub lines : new.lines ≡ old.lines ++ l ∷ []
+  pub lists : new.lists (length new.lines) ≡ true
+  pub keeps : (n : ℕ) → old.lists n ≡ true → new.lists n ≡ true
+  pub only : (n : ℕ) → new.lists n ≡ true → (old.lists n ≡ true) ⊎ (n ≡ length new.lines)

@@ -1,12 +1,12 @@
 -- Numbers filed under keys, and lines filed under one of their atoms.
-use Rattle.std.specs.Prelude.{◌≡◌, ℕ, ◌+◌, ◌*◌, ◌-◌, ◌<◌, ◌≤◌, ◌%◌, ◌^◌, true, false, List, [], ◌∷◌, ◌++◌, fold, length, map, Some, slice_get, unwrap_or, nat_eq}
+use Rattle.std.specs.Prelude.{◌≡◌, ◌⊎◌, ℕ, Bool, ◌+◌, ◌*◌, ◌-◌, ◌<◌, ◌≤◌, ◌%◌, ◌^◌, true, false, List, [], ◌∷◌, ◌++◌, fold, length, map, Some, slice_get, unwrap_or, nat_eq}
 use Rattle.indexmap.specs.IndexMap.{get}
 use Rattle.spl_terms.specs.declared.term.Term.{Term, Term-F, fold-Term}
 use Rattle.spl_terms.specs.declared.term.Term.TheOpen as layer
 use Rattle.spl_terms.specs.declared.atom.Atom.{Atom}
 use Rattle.spl_terms.specs.declared.atom.Atom.TheVariants.{Holds, Equal}
 use Rattle.spl_terms.specs.declared.clause.Clause.{Clause}
-use Rattle.spl_truth.specs.Redundancy.{is_subclause}
+use Rattle.spl_truth.specs.Redundancy.{is_subclause, Subsumes}
 use Rattle.proof_steps.specs.declared.step.Line.{Line}
 use Rattle.proof_steps.specs.Steps.{numbered}
 use Rattle.worker_cases.specs.Covering.{Listing}
@@ -70,37 +70,57 @@ pub record IsLinked (filing : Filing) : Type 0 where
 abbrev pub IsFiled : List Entry → ℕ → ℕ → Type 0
 IsFiled entries key value = (x : ℕ) × (e : Entry) × (numbered entries x ≡ Some e) × (e.key ≡ key) × (e.value ≡ value)
 
--- each line is filed under the key of its clause
-abbrev pub AreFiled : List Entry → List Line → Type 0
-AreFiled entries lines = (n : ℕ) (l : Line) → numbered lines n ≡ Some l → IsFiled entries (clause_key l.stated.clause) n
-
 -- the value was filed under the key, last of all
 pub record IsAdded (old new : List Entry) (key value : ℕ) : Type 0 where
   pub older : ℕ
   pub last : new ≡ old ++ record { key = key; value = value; older = older } ∷ []
 
--- the entries are linked, and as many of the first lines are filed as there are entries
-pub record HasFiledFirst (lines : List Line) (filing : Filing) : Type 0 where
+-- what was filed still is, and nothing new but the value
+pub record FilesOnly (old new : List Entry) (value : ℕ) : Type 0 where
+  pub keeps : (key v : ℕ) → IsFiled old key v → IsFiled new key v
+  pub only : (key v : ℕ) → IsFiled new key v → IsFiled old key v ⊎ (v ≡ value)
+
+-- and that only where it is wanted
+pub record FilesWanted (wanted : Bool) (old new : List Entry) (value : ℕ) : Type 0 where
+  pub keeps : (key v : ℕ) → IsFiled old key v → IsFiled new key v
+  pub only : (key v : ℕ) → IsFiled new key v → IsFiled old key v ⊎ ((v ≡ value) × (wanted ≡ true))
+
+-- each listed line is filed under the key of its clause, and nothing else is filed
+pub record HasFiled (at : Listing) (filing : Filing) : Type 0 where
   pub linked : IsLinked filing
-  pub filed : (n : ℕ) (l : Line) → n ≤ length filing.entries.items → numbered lines n ≡ Some l → IsFiled filing.entries.items (clause_key l.stated.clause) n
+  pub filed : (n : ℕ) (l : Line) → at.lists n ≡ true → numbered at.lines n ≡ Some l → IsFiled filing.entries.items (clause_key l.stated.clause) n
+  pub only : (key n : ℕ) → IsFiled filing.entries.items key n → at.lists n ≡ true
 
--- and so each line is filed
-pub record HasFiled (lines : List Line) (filing : Filing) : Type 0 where
-  pub linked : IsLinked filing
-  pub filed : AreFiled filing.entries.items lines
-  pub whole : length filing.entries.items ≡ length lines
+-- ---- lines that subsume a clause
 
--- of the listed lines that are filed under the key in the entries after x, none is a subclause of c
-abbrev pub HasNoSubclause : Listing → List Entry → ℕ → ℕ → Clause → Type 0
-HasNoSubclause at entries key x c = (y : ℕ) (e : Entry) (l : Line) → x < y → numbered entries y ≡ Some e → e.key ≡ key → at.lists e.value ≡ true → numbered at.lines e.value ≡ Some l → is_subclause l.stated.clause c ≡ false
+-- the line n subsumes c
+pub record SubsumesBy (lines : List Line) (n : ℕ) (c : Clause) : Type 0 where
+  pub line : Line
+  pub found : numbered lines n ≡ Some line
+  pub subsumes : Subsumes line.stated.clause c
 
--- no listed line that is filed under the key of one of the atoms is a subclause of c
-abbrev pub HaveNoSubclause : Listing → List Entry → ℕ → List Atom → Clause → Type 0
-HaveNoSubclause at entries side atoms c = (k : ℕ) (a : Atom) → slice_get atoms k ≡ Some a → HasNoSubclause at entries (key side a) 0 c
+-- a line that is filed subsumes c
+pub record IsSubsumedByFiled (lines : List Line) (entries : List Entry) (c : Clause) : Type 0 where
+  pub key : ℕ
+  pub number : ℕ
+  pub filed : IsFiled entries key number
+  pub by : SubsumesBy lines number c
 
--- no listed line that is filed under the key of one of its atoms, or as the empty clause, is a subclause of c
-pub record AreNoSubclauses (at : Listing) (entries : List Entry) (c : Clause) : Type 0 where
-  pub empty : HasNoSubclause at entries 0 0 c
-  pub succedent : HaveNoSubclause at entries after_arrow c.succedent c
-  pub antecedent : HaveNoSubclause at entries before_arrow c.antecedent c
-  pub constraint : HaveNoSubclause at entries before_arrow c.constraint c
+-- the line n, if there is one, is no subclause of c
+abbrev pub IsNoSubclause : List Line → ℕ → Clause → Type 0
+IsNoSubclause lines n c = (l : Line) → numbered lines n ≡ Some l → is_subclause l.stated.clause c ≡ false
+
+-- of the lines that are filed under the key in the entries after x, none is a subclause of c
+abbrev pub HasNoSubclause : List Line → List Entry → ℕ → ℕ → Clause → Type 0
+HasNoSubclause lines entries key x c = (y : ℕ) (e : Entry) → x < y → numbered entries y ≡ Some e → e.key ≡ key → IsNoSubclause lines e.value c
+
+-- no line that is filed under the key of one of the atoms is a subclause of c
+abbrev pub HaveNoSubclause : List Line → List Entry → ℕ → List Atom → Clause → Type 0
+HaveNoSubclause lines entries side atoms c = (k : ℕ) (a : Atom) → slice_get atoms k ≡ Some a → HasNoSubclause lines entries (key side a) 0 c
+
+-- no line that is filed under the key of one of its atoms, or as the empty clause, is a subclause of c
+pub record AreNoSubclauses (lines : List Line) (entries : List Entry) (c : Clause) : Type 0 where
+  pub empty : HasNoSubclause lines entries 0 0 c
+  pub succedent : HaveNoSubclause lines entries after_arrow c.succedent c
+  pub antecedent : HaveNoSubclause lines entries before_arrow c.antecedent c
+  pub constraint : HaveNoSubclause lines entries before_arrow c.constraint c

@@ -1,5 +1,5 @@
 -- Given lines filed under each of their atoms, and the lines that may resolve with one.
-use Rattle.std.specs.Prelude.{◌≡◌, ◌⊎◌, ℕ, ◌==◌, ◌<◌, Bool, true, List, length, Some, slice_get}
+use Rattle.std.specs.Prelude.{◌≡◌, ℕ, ◌==◌, Bool, true, List, Some, slice_get}
 use Rattle.std.specs.List.{list_any}
 use Rattle.spl_terms.specs.declared.atom.Atom.{Atom}
 use Rattle.spl_terms.specs.declared.clause.Part.{Part}
@@ -9,7 +9,6 @@ use Rattle.spl_terms.specs.Clauses.{part_of}
 use Rattle.proof_steps.specs.declared.step.Line.{Line}
 use Rattle.proof_steps.specs.Steps.{numbered}
 use Rattle.worker_cases.specs.declared.filing.Entry.{Entry}
-use Rattle.worker_cases.specs.declared.index.Activation.{Activation}
 use Rattle.worker_cases.specs.declared.filing.Filing.{Filing}
 use Rattle.worker_cases.specs.Filing.{key, before_arrow, after_arrow, IsFiled, IsLinked}
 
@@ -35,16 +34,11 @@ HasAtoms entries side atoms value = (k : ℕ) (a : Atom) → slice_get atoms k �
 abbrev pub HasClause : List Entry → Clause → ℕ → Type 0
 HasClause entries c value = (part : Part) → HasAtoms entries (side part) (part_of c part) value
 
--- what was filed still is, and nothing new but the value
-pub record FilesOnly (old new : List Entry) (value : ℕ) : Type 0 where
-  pub keeps : (key v : ℕ) → IsFiled old key v → IsFiled new key v
-  pub only : (key v : ℕ) → IsFiled new key v → IsFiled old key v ⊎ (v ≡ value)
-
--- the clause of each activation is filed under the key of each of its atoms, as the activation's place, and nothing else is filed
-pub record HasLiterals (lines : List Line) (activations : List Activation) (literals : Filing) : Type 0 where
+-- the number of each given line is filed under the key of each atom of its clause, and nothing else is filed
+pub record HasLiterals (lines : List Line) (given : ℕ → Type 0) (literals : Filing) : Type 0 where
   pub linked : IsLinked literals
-  pub atoms : (k : ℕ) (a : Activation) (l : Line) → slice_get activations k ≡ Some a → numbered lines a.clause ≡ Some l → HasClause literals.entries.items l.stated.clause k
-  pub only : (key v : ℕ) → IsFiled literals.entries.items key v → v < length activations
+  pub atoms : (n : ℕ) (l : Line) → given n → numbered lines n ≡ Some l → HasClause literals.entries.items l.stated.clause n
+  pub only : (key n : ℕ) → IsFiled literals.entries.items key n → given n
 
 -- all that is filed under the key is among the values
 abbrev pub HasValues : List Entry → ℕ → List ℕ → Type 0

@@ -1,5 +1,5 @@
 -- What holds while worker 1 works: s is what the table was made with, past its journal, the newest entry first.
-use Rattle.std.specs.Prelude.{◌≡◌, ◌⊎◌, ℕ, ◌+◌, ◌<◌, ◌≤◌, Bool, true, false, List, length, Option, Some, None, IsSome, Contains, slice_get}
+use Rattle.std.specs.Prelude.{◌≡◌, ◌⊎◌, ℕ, ◌<◌, ◌≤◌, true, false, List, [], ◌∷◌, ◌++◌, length, Some, None, IsSome, Contains, slice_get}
 use Rattle.spl_terms.specs.declared.clause.Part.{Part}
 use Rattle.spl_terms.specs.declared.clause.Clause.{Clause}
 use Rattle.spl_terms.specs.Clauses.{part_of, renumbered}
@@ -9,18 +9,19 @@ use Rattle.proof_steps.specs.Steps.{numbered, ground_resolve}
 use Rattle.proof_steps.specs.Checked.{IsConclusion, stated}
 use Rattle.split_tree.specs.declared.event.Entry.{Entry}
 use Rattle.split_tree.specs.State.{State}
-use Rattle.split_tree.specs.Journal.{Setting, ledger, nodes, rounds, splits}
+use Rattle.split_tree.specs.Journal.{Setting, ledger, steps, nodes, splits}
 use Rattle.split_tree.specs.Paths.{is_leaf, on_path}
-use Rattle.split_tree.specs.Facts.{listed, worked, chosen, IsDead, IsLive, Holds, before_choice, published_since}
+use Rattle.split_tree.specs.Facts.{listed, worked, split, chosen, IsDead, IsLive, Holds, before_choice, published_since}
 use Rattle.split_tree.specs.Ending.{has_empty, first_end}
-use Rattle.split_tree.specs.Legal.{IsPair, IsPartner, IsPremise, IsTooLarge, IsListed, IsSettled, IsUnsplit, IsLegalJournal}
+use Rattle.split_tree.specs.Legal.{IsPair, IsPartner, IsPremise, IsTooLarge, IsListed, IsSettled, IsLegalJournal}
 use Rattle.split_tree.specs.Caches.{AreSmall}
+use Rattle.case_queue.specs.Queues.{HasQueue}
 use Rattle.worker_cases.specs.declared.halt.Halt.{Halt}
 use Rattle.worker_cases.specs.declared.halt.Halt.TheVariants as halts
 use Rattle.worker_cases.specs.declared.index.Activation.{Activation}
 use Rattle.worker_cases.specs.declared.index.Index.{Index}
 use Rattle.worker_cases.specs.Covering.{Listing, IsNumber, IsNew, IsCoveredPair, Grows}
-use Rattle.worker_cases.specs.Filing.{HasFiled, HasFiledFirst}
+use Rattle.worker_cases.specs.Filing.{HasFiled}
 use Rattle.worker_cases.specs.Partners.{is_in, HasLiterals}
 
 -- the ledger, and what is listed at m
@@ -113,14 +114,14 @@ pub record IsActivation (past : List Entry) (activations : List Activation) (m n
   pub is : at.clause ≡ n
   pub on : on_path past m at.node ≡ true
 
--- of the activations at these places, the clauses of those on the path of m are among the numbers
-abbrev pub AreGathered : List Entry → List Activation → ℕ → List ℕ → List ℕ → Type 0
-AreGathered past activations m places numbers = (v : ℕ) (a : Activation) → is_in places v ≡ true → slice_get activations v ≡ Some a → on_path past m a.node ≡ true → is_in numbers a.clause ≡ true
+-- clause n is worked off at m, or `also` says it
+abbrev pub IsGiven : List Entry → (ℕ → ℕ → Type 0) → ℕ → ℕ → Type 0
+IsGiven past also m n = (worked past m n ≡ true) ⊎ also m n
 
 -- the activations, each with the node where it was: at a live node those clauses are worked off that were activated on its path, and those that `also` says
 pub record HasActivations (s : Setting) (past : List Entry) (activations : List Activation) (also : ℕ → ℕ → Type 0) : Type 0 where
-  pub complete : (m n : ℕ) → m < nodes past → IsLive s past m → (worked past m n ≡ true) ⊎ also m n → IsActivation past activations m n
-  pub only : (k m : ℕ) (a : Activation) → slice_get activations k ≡ Some a → m < nodes past → IsLive s past m → on_path past m a.node ≡ true → (worked past m a.clause ≡ true) ⊎ also m a.clause
+  pub complete : (m n : ℕ) → m < nodes past → IsLive s past m → IsGiven past also m n → IsActivation past activations m n
+  pub only : (k m : ℕ) (a : Activation) → slice_get activations k ≡ Some a → m < nodes past → IsLive s past m → on_path past m a.node ≡ true → IsGiven past also m a.clause
   pub numbers : (k : ℕ) (a : Activation) → slice_get activations k ≡ Some a → IsNumber (ledger s past) a.clause × (a.node < nodes past)
 
 -- no clause but the activated ones
@@ -131,18 +132,35 @@ nothing_else m n = ⊥
 abbrev pub pending : ℕ → ℕ → ℕ → ℕ → Type 0
 pending m clause at n = (at ≡ m) × (n ≡ clause)
 
--- the first lines are filed, and the activated clauses with their literals
-pub record IsIndex (s : Setting) (past : List Entry) (index : Index) : Type 0 where
-  pub lines : HasFiledFirst (ledger s past) index.clauses
-  pub few : length index.clauses.entries.items ≤ length (ledger s past)
-  pub activations : HasActivations s past index.activations.items nothing_else
-  pub literals : HasLiterals (ledger s past) index.activations.items index.literals
+-- line n is listed at a live node
+pub record IsLiveLine (s : Setting) (past : List Entry) (n : ℕ) : Type 0 where
+  pub node : ℕ
+  pub there : node < nodes past
+  pub live : IsLive s past node
+  pub lists : listed s past node n ≡ true
 
--- all lines are filed, and the activated clauses and those that `also` says with their literals
-pub record IsWhole (s : Setting) (past : List Entry) (index : Index) (also : ℕ → ℕ → Type 0) : Type 0 where
-  pub lines : HasFiled (ledger s past) index.clauses
+-- the numbers are those of lines, and those of the first lines, up to count, that are listed at a live node are among them
+pub record HasLines (s : Setting) (past : List Entry) (numbers : List ℕ) (count : ℕ) : Type 0 where
+  pub complete : (n : ℕ) → n ≤ count → IsLiveLine s past n → is_in numbers n ≡ true
+  pub are : (n : ℕ) → is_in numbers n ≡ true → IsNumber (ledger s past) n
+  pub within : count ≤ steps s past
+
+-- x was added at the end where it is wanted, else nothing was
+abbrev pub AddsWanted : {A : Type 0} → Type 0 → A → List A → List A → Type 0
+AddsWanted wanted x old new = (wanted × (new ≡ old ++ x ∷ [])) ⊎ ((wanted → ⊥) × (new ≡ old))
+
+-- between two cases: what may still count at a live node is kept; what is filed no longer counts
+pub record IsIndex (s : Setting) (past : List Entry) (index : Index) : Type 0 where
+  pub kept : HasLines s past index.lines.items index.seen
+  pub activations : HasActivations s past index.activations.items nothing_else
+
+-- at the node m that is held: exactly the lines that are listed there are filed, and exactly the clauses that are worked off there, and those that `also` says, with their literals; the queue is that of m
+pub record IsWhole (s : Setting) (past : List Entry) (m : ℕ) (index : Index) (also : ℕ → ℕ → Type 0) : Type 0 where
+  pub kept : HasLines s past index.lines.items index.seen
+  pub lines : HasFiled (listing s past m) index.clauses
   pub activations : HasActivations s past index.activations.items also
-  pub literals : HasLiterals (ledger s past) index.activations.items index.literals
+  pub literals : HasLiterals (ledger s past) (IsGiven past also m) index.literals
+  pub queue : HasQueue s past m index.queue
 
 -- the numbers are those of activated clauses or of the clause, and all others of these have no conclusion with the clause that isn't covered
 pub record AreAllPartners (s : Setting) (past : List Entry) (m clause : ℕ) (numbers : List ℕ) : Type 0 where
@@ -156,7 +174,9 @@ pub record KeepsWork (s : Setting) (old new : List Entry) : Type 0 where
   pub count : nodes new ≡ nodes old
   pub paths : (m n : ℕ) → on_path new m n ≡ on_path old m n
   pub worked : (m n : ℕ) → worked new m n ≡ worked old m n
+  pub split : (m n : ℕ) → split new m n ≡ split old m n
   pub dead : (m : ℕ) → m < nodes old → IsDead s old m → IsDead s new m
+  pub lists : (m n : ℕ) → n ≤ steps s old → listed s new m n ≡ true → listed s old m n ≡ true
   pub longer : length (ledger s old) ≤ length (ledger s new)
   pub lines : (k : ℕ) → k < length (ledger s old) → slice_get (ledger s new) k ≡ slice_get (ledger s old) k
 

@@ -7,19 +7,19 @@ ghost use Rattle.worker_cases.specs.declared.halt.Halt.TheVariants.{Closed};
 ghost use Rattle.worker_cases.specs.Working.{IsBetween, IsIdle, IsIndex, IsWhole, nothing_else, IsHalted};
 
 use crate::halt::Halt;
-use crate::index::{Index, file_lines};
+use crate::index::Index;
 use crate::rounds::work_round;
 use spl_terms::order_stays;
 use split_tree::{Event, Table};
 use std::alloc::{AllocError, Global};
 
-/// Claims the node, and files the lines that were published since.
-fn claim(table: &mut Table, node: u32, index: &mut Index) -> Result<(), AllocError>
+/// Claims the node, and files what counts there.
+fn claim(alloc: Global, table: &mut Table, node: u32, index: &mut Index) -> Result<(), AllocError>
     requires between { IsBetween table.old.setting table.old.past }
     requires claimable { IsClaimable table.old.setting table.old.past node }
     requires index { IsIndex table.old.setting table.old.past index.old }
     ensures idle { OnOk result (IsIdle table.new.setting table.new.past node) }
-    ensures index { OnOk result (IsWhole table.new.setting table.new.past index.new nothing_else) }
+    ensures index { OnOk result (IsWhole table.new.setting table.new.past node index.new nothing_else) }
     ensures setting { table.new.setting ≡ table.old.setting }
     ensures rounds { rounds table.new.past ≡ rounds table.old.past }
     ensures unended { first_end table.new.past ≡ None }
@@ -29,14 +29,14 @@ fn claim(table: &mut Table, node: u32, index: &mut Index) -> Result<(), AllocErr
     table.apply(1, Event::Claim { node });
     table.journal_is_legal();
     table.ledger_is_concluded();
-    file_lines(table, &mut index.clauses)?;
+    index.fill(alloc, table, node)?;
     Ok(())
 }
 
 /// Works at the node until it is split or closed, or until an event ends the journal.
 fn work_at(alloc: Global, table: &mut Table, node: u32, index: &mut Index) -> Result<(), Halt>
     requires idle { IsIdle table.old.setting table.old.past node }
-    requires index { IsWhole table.old.setting table.old.past index.old nothing_else }
+    requires index { IsWhole table.old.setting table.old.past node index.old nothing_else }
     ensures between { OnOk result (IsBetween table.new.setting table.new.past) }
     ensures index { OnOk result (IsIndex table.new.setting table.new.past index.new) }
     ensures setting { OnOk result (table.new.setting ≡ table.old.setting) }
@@ -70,7 +70,7 @@ fn work_case(alloc: Global, table: &mut Table, index: &mut Index) -> Result<(), 
         table.dead_root_has_ended();
         return Err(Halt::Ended);
     };
-    claim(table, node, index)?;
+    claim(alloc, table, node, index)?;
     work_at(alloc, table, node, index)
 }
 

@@ -1,12 +1,8 @@
-ghost use Rattle.std.specs.Prelude.{◌≡◌, ◌<◌, [], fold, map, Some, unwrap_or, nat_eq, OnOk, OnErr, MatchBool, true, false};
+ghost use Rattle.std.specs.Prelude.{◌≡◌, ℕ, [], fold, map, unwrap_or, nat_eq, OnOk, OnErr, MatchBool};
 ghost use Rattle.indexmap.specs.IndexMap.{get};
-ghost use Rattle.proof_steps.specs.declared.step.Line.{Line};
-ghost use Rattle.spl_truth.specs.Redundancy.{is_subclause};
-ghost use Rattle.proof_steps.specs.Steps.{numbered};
-ghost use Rattle.split_tree.specs.Journal.{ledger, nodes};
-ghost use Rattle.split_tree.specs.Facts.{listed};
+ghost use Rattle.split_tree.specs.Journal.{ledger};
 ghost use Rattle.worker_cases.specs.Covering.{IsSubsumed, IsNew};
-ghost use Rattle.worker_cases.specs.Filing.{mixed, term_hash, key, clause_key, IsLinked, IsAdded, HasFiled, HasNoSubclause, HaveNoSubclause, AreNoSubclauses};
+ghost use Rattle.worker_cases.specs.Filing.{mixed, term_hash, key, clause_key, IsLinked, IsAdded, HasFiled, SubsumesBy, IsSubsumedByFiled, IsNoSubclause, HasNoSubclause, HaveNoSubclause, AreNoSubclauses};
 ghost use Rattle.worker_cases.specs.Working.{listing};
 
 use crate::ledger::line_at;
@@ -114,6 +110,15 @@ impl Filing {
         }
     }
 
+    /// Nothing is filed any more; the memory is kept.
+    pub fn clear(&mut self)
+        ensures linked { IsLinked self.new }
+        ensures none { self.new.entries.items ≡ [] }
+    {
+        self.newest.clear();
+        self.entries.clear();
+    }
+
     /// The number of the last entry of the key, from 1; 0 where there is none.
     pub fn newest(&self, key: u64) -> u32
         ensures { result ≡ unwrap_or (get nat_eq self.now.newest key) 0 }
@@ -141,26 +146,24 @@ impl Filing {
 
 // ---- lines that subsume a clause
 
-/// Whether the line with this number, from 1, is listed at the node and is a subclause of the clause.
-fn is_line_in(table: &Table, node: u32, number: u32, clause: &Clause) -> bool
-    requires { node < nodes table.now.past }
-    ensures { MatchBool result (IsSubsumed (listing table.now.setting table.now.past node) clause.now) ((l : Line) → listed table.now.setting table.now.past node number ≡ true → numbered (ledger table.now.setting table.now.past) number ≡ Some l → is_subclause l.stated.clause clause.now ≡ false) }
+/// Whether the line with this number, from 1, is a subclause of the clause.
+fn is_line_in(table: &Table, number: u32, clause: &Clause) -> bool
+    ensures { MatchBool result (SubsumesBy (ledger table.now.setting table.now.past) number clause.now) (IsNoSubclause (ledger table.now.setting table.now.past) number clause.now) }
 {
     match line_at(table, number) {
-        Some(line) => table.listed(node, number) && is_subclause(&line.stated.clause, clause),
+        Some(line) => is_subclause(&line.stated.clause, clause),
         None => false,
     }
 }
 
 /// Whether a line that is filed under the key is a subclause of the clause.
-fn is_subsumed_at(table: &Table, node: u32, filing: &Filing, key: u64, clause: &Clause) -> bool
-    requires there { node < nodes table.now.past }
-    requires filed { HasFiled (ledger table.now.setting table.now.past) filing.now }
-    ensures { MatchBool result (IsSubsumed (listing table.now.setting table.now.past node) clause.now) (HasNoSubclause (listing table.now.setting table.now.past node) filing.now.entries.items key 0 clause.now) }
+fn is_subsumed_at(table: &Table, filing: &Filing, key: u64, clause: &Clause) -> bool
+    requires linked { IsLinked filing.now }
+    ensures { MatchBool result (IsSubsumedByFiled (ledger table.now.setting table.now.past) filing.now.entries.items clause.now) (HasNoSubclause (ledger table.now.setting table.now.past) filing.now.entries.items key 0 clause.now) }
 {
     let mut number = filing.newest(key);
     while let Some(entry) = numbered(filing.entries.as_slice(), number) {
-        if is_line_in(table, node, entry.value, clause) {
+        if is_line_in(table, entry.value, clause) {
             return true;
         }
         number = entry.older;
@@ -171,18 +174,16 @@ fn is_subsumed_at(table: &Table, node: u32, filing: &Filing, key: u64, clause: &
 /// Whether a line that is filed under the key of one of the atoms is a subclause of the clause.
 fn is_subsumed_by(
     table: &Table,
-    node: u32,
     filing: &Filing,
     side: u64,
     atoms: &[Atom],
     clause: &Clause,
 ) -> bool
-    requires there { node < nodes table.now.past }
-    requires filed { HasFiled (ledger table.now.setting table.now.past) filing.now }
-    ensures { MatchBool result (IsSubsumed (listing table.now.setting table.now.past node) clause.now) (HaveNoSubclause (listing table.now.setting table.now.past node) filing.now.entries.items side atoms.now clause.now) }
+    requires linked { IsLinked filing.now }
+    ensures { MatchBool result (IsSubsumedByFiled (ledger table.now.setting table.now.past) filing.now.entries.items clause.now) (HaveNoSubclause (ledger table.now.setting table.now.past) filing.now.entries.items side atoms.now clause.now) }
 {
     for atom in atoms {
-        if is_subsumed_at(table, node, filing, key(side, atom), clause) {
+        if is_subsumed_at(table, filing, key(side, atom), clause) {
             return true;
         }
     }
@@ -191,49 +192,30 @@ fn is_subsumed_by(
 
 /// Whether a line that is filed under the key of one of the clause's atoms, or as the empty clause, is a subclause of
 /// the clause.
-fn has_subclause(table: &Table, node: u32, filing: &Filing, clause: &Clause) -> bool
-    requires there { node < nodes table.now.past }
-    requires filed { HasFiled (ledger table.now.setting table.now.past) filing.now }
-    ensures { MatchBool result (IsSubsumed (listing table.now.setting table.now.past node) clause.now) (AreNoSubclauses (listing table.now.setting table.now.past node) filing.now.entries.items clause.now) }
+fn has_subclause(table: &Table, filing: &Filing, clause: &Clause) -> bool
+    requires linked { IsLinked filing.now }
+    ensures { MatchBool result (IsSubsumedByFiled (ledger table.now.setting table.now.past) filing.now.entries.items clause.now) (AreNoSubclauses (ledger table.now.setting table.now.past) filing.now.entries.items clause.now) }
 {
-    if is_subsumed_at(table, node, filing, 0, clause) {
+    if is_subsumed_at(table, filing, 0, clause) {
         return true;
     }
-    if is_subsumed_by(
-        table,
-        node,
-        filing,
-        AFTER_ARROW,
-        clause.succedent.as_slice(),
-        clause,
-    ) {
+    let succedent = clause.succedent.as_slice();
+    if is_subsumed_by(table, filing, AFTER_ARROW, succedent, clause) {
         return true;
     }
-    if is_subsumed_by(
-        table,
-        node,
-        filing,
-        BEFORE_ARROW,
-        clause.antecedent.as_slice(),
-        clause,
-    ) {
+    let antecedent = clause.antecedent.as_slice();
+    if is_subsumed_by(table, filing, BEFORE_ARROW, antecedent, clause) {
         return true;
     }
-    is_subsumed_by(
-        table,
-        node,
-        filing,
-        BEFORE_ARROW,
-        clause.constraint.as_slice(),
-        clause,
-    )
+    let constraint = clause.constraint.as_slice();
+    is_subsumed_by(table, filing, BEFORE_ARROW, constraint, clause)
 }
 
-/// Whether a line that is listed at the node is a subclause of the clause; where none is, none states it.
-pub fn is_subsumed(table: &Table, node: u32, filing: &Filing, clause: &Clause) -> bool
-    requires there { node < nodes table.now.past }
-    requires filed { HasFiled (ledger table.now.setting table.now.past) filing.now }
-    ensures { MatchBool result (IsSubsumed (listing table.now.setting table.now.past node) clause.now) (IsNew (listing table.now.setting table.now.past node) clause.now) }
+/// Whether a filed line is a subclause of the clause; where none is, no filed line states it. The lines that are listed
+/// at the node are those that are filed.
+pub fn is_subsumed(table: &Table, filing: &Filing, clause: &Clause) -> bool
+    requires linked { IsLinked filing.now }
+    ensures { (m : ℕ) → HasFiled (listing table.now.setting table.now.past m) filing.now → MatchBool result (IsSubsumed (listing table.now.setting table.now.past m) clause.now) (IsNew (listing table.now.setting table.now.past m) clause.now) }
 {
-    has_subclause(table, node, filing, clause)
+    has_subclause(table, filing, clause)
 }

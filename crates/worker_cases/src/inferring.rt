@@ -61,10 +61,10 @@ fn resolve_places(
     n: u32,
 ) -> Result<(), Halt>
     requires busy { IsBusy table.old.setting table.old.past node clause }
-    requires index { IsWhole table.old.setting table.old.past index.old (pending node clause) }
+    requires index { IsWhole table.old.setting table.old.past node index.old (pending node clause) }
     requires mate { IsMate table.old.setting table.old.past node clause m n }
     ensures step { OnOk result (IsStep table.old table.new node clause) }
-    ensures index { OnOk result (IsWhole table.new.setting table.new.past index.new (pending node clause)) }
+    ensures index { OnOk result (IsWhole table.new.setting table.new.past node index.new (pending node clause)) }
     ensures covered { OnOk result (IsCoveredAt (listing table.new.setting table.new.past node) i part j m n) }
     ensures halt { IfErr result (IsHalted table.old table.new) }
     ensures left { IfErr result (IsLeft table.new index.new) }
@@ -100,10 +100,10 @@ fn resolve_part(
     n: u32,
 ) -> Result<(), Halt>
     requires busy { IsBusy table.old.setting table.old.past node clause }
-    requires index { IsWhole table.old.setting table.old.past index.old (pending node clause) }
+    requires index { IsWhole table.old.setting table.old.past node index.old (pending node clause) }
     requires mate { IsMate table.old.setting table.old.past node clause m n }
     ensures step { OnOk result (IsStep table.old table.new node clause) }
-    ensures index { OnOk result (IsWhole table.new.setting table.new.past index.new (pending node clause)) }
+    ensures index { OnOk result (IsWhole table.new.setting table.new.past node index.new (pending node clause)) }
     ensures covered { OnOk result ((j : ℕ) → IsCoveredAt (listing table.new.setting table.new.past node) i part j m n) }
     ensures halt { IfErr result (IsHalted table.old table.new) }
     ensures left { IfErr result (IsLeft table.new index.new) }
@@ -128,10 +128,10 @@ fn resolve_place(
     n: u32,
 ) -> Result<(), Halt>
     requires busy { IsBusy table.old.setting table.old.past node clause }
-    requires index { IsWhole table.old.setting table.old.past index.old (pending node clause) }
+    requires index { IsWhole table.old.setting table.old.past node index.old (pending node clause) }
     requires mate { IsMate table.old.setting table.old.past node clause m n }
     ensures step { OnOk result (IsStep table.old table.new node clause) }
-    ensures index { OnOk result (IsWhole table.new.setting table.new.past index.new (pending node clause)) }
+    ensures index { OnOk result (IsWhole table.new.setting table.new.past node index.new (pending node clause)) }
     ensures covered { OnOk result ((part : Part) (j : ℕ) → IsCoveredAt (listing table.new.setting table.new.past node) i part j m n) }
     ensures halt { IfErr result (IsHalted table.old table.new) }
     ensures left { IfErr result (IsLeft table.new index.new) }
@@ -153,10 +153,10 @@ fn resolve_pair(
     n: u32,
 ) -> Result<(), Halt>
     requires busy { IsBusy table.old.setting table.old.past node clause }
-    requires index { IsWhole table.old.setting table.old.past index.old (pending node clause) }
+    requires index { IsWhole table.old.setting table.old.past node index.old (pending node clause) }
     requires mate { IsMate table.old.setting table.old.past node clause m n }
     ensures step { OnOk result (IsStep table.old table.new node clause) }
-    ensures index { OnOk result (IsWhole table.new.setting table.new.past index.new (pending node clause)) }
+    ensures index { OnOk result (IsWhole table.new.setting table.new.past node index.new (pending node clause)) }
     ensures covered { OnOk result (IsCoveredPair (listing table.new.setting table.new.past node) m n) }
     ensures halt { IfErr result (IsHalted table.old table.new) }
     ensures left { IfErr result (IsLeft table.new index.new) }
@@ -180,11 +180,11 @@ pub fn resolve_both(
     n: u32,
 ) -> Result<(), Halt>
     requires busy { IsBusy table.old.setting table.old.past node clause }
-    requires index { IsWhole table.old.setting table.old.past index.old (pending node clause) }
+    requires index { IsWhole table.old.setting table.old.past node index.old (pending node clause) }
     requires mate { IsMate table.old.setting table.old.past node clause m n }
     requires back { IsMate table.old.setting table.old.past node clause n m }
     ensures step { OnOk result (IsStep table.old table.new node clause) }
-    ensures index { OnOk result (IsWhole table.new.setting table.new.past index.new (pending node clause)) }
+    ensures index { OnOk result (IsWhole table.new.setting table.new.past node index.new (pending node clause)) }
     ensures covered { OnOk result (IsCoveredPair (listing table.new.setting table.new.past node) m n × IsCoveredPair (listing table.new.setting table.new.past node) n m) }
     ensures halt { IfErr result (IsHalted table.old table.new) }
     ensures left { IfErr result (IsLeft table.new index.new) }

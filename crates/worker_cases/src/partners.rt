@@ -1,16 +1,10 @@
-ghost use Rattle.std.specs.Prelude.{◌≡◌, ◌<◌, ◌++◌, ◌∷◌, ℕ, [], length, true, if◌then◌else◌, IfOk, OnOk};
-ghost use Rattle.spl_terms.specs.declared.clause.Part.TheVariants.{Constraint, Antecedent, Succedent};
-ghost use Rattle.worker_cases.specs.Filing.{IsLinked};
-ghost use Rattle.worker_cases.specs.Partners.{HasAtoms, HasClause, FilesOnly, HasValues, HasValuesOf, HasPartners, AreFiledValues, AddsValues, is_in};
-ghost use Rattle.split_tree.specs.Journal.{nodes};
-ghost use Rattle.split_tree.specs.Paths.{on_path};
-ghost use Rattle.worker_cases.specs.Working.{IsActivation, AreGathered};
+ghost use Rattle.std.specs.Prelude.{IfOk, OnOk};
+ghost use Rattle.worker_cases.specs.Filing.{IsLinked, FilesOnly};
+ghost use Rattle.worker_cases.specs.Partners.{HasAtoms, HasClause, HasValues, HasValuesOf, HasPartners, AreFiledValues, AddsValues};
 
 use crate::filing::{AFTER_ARROW, BEFORE_ARROW, Filing, key};
-use crate::index::Activation;
 use proof_steps::numbered;
 use spl_terms::{Atom, Clause};
-use split_tree::Table;
 use std::alloc::{AllocError, Global};
 
 /// Files the number under the key of each of the atoms.
@@ -79,8 +73,8 @@ fn add_values_of(
     Ok(())
 }
 
-/// The numbers that are filed on the other side under the key of an atom of the clause: a line with another number has
-/// no resolution conclusion with the clause. A number may come more than once.
+/// The lines that are filed on the other side under the key of an atom of the clause: any other filed line has
+/// no resolution conclusion with the clause. A line may come more than once.
 pub fn partners_of(
     alloc: Global,
     literals: &Filing,
@@ -110,42 +104,4 @@ pub fn partners_of(
         &mut values,
     )?;
     Ok(values)
-}
-
-/// Adds the clause of the activation, if it was made on the path of the node.
-fn add_activated(
-    table: &Table,
-    node: u32,
-    activation: Activation,
-    clauses: &mut Vec<u32>,
-) -> Result<(), AllocError>
-    requires { node < nodes table.now.past }
-    ensures { OnOk result (clauses.new.items ≡ (if on_path table.now.past node activation.node then clauses.old.items ++ activation.clause ∷ [] else clauses.old.items)) }
-{
-    if table.on_path(node, activation.node) {
-        clauses.push(activation.clause)?;
-    }
-    Ok(())
-}
-
-/// The clauses of those activations at these places, from 0, that were made on the path of the node. A clause may come
-/// more than once.
-pub fn activated_on_path(
-    alloc: Global,
-    table: &Table,
-    node: u32,
-    activations: &[Activation],
-    places: &[u32],
-) -> Result<Vec<u32>, AllocError>
-    requires there { node < nodes table.now.past }
-    requires within { (v : ℕ) → is_in places.now v ≡ true → v < length activations.now }
-    ensures given { IfOk result (λ clauses. (x : ℕ) → is_in clauses.items x ≡ true → IsActivation table.now.past activations.now node x) }
-    ensures all { IfOk result (λ clauses. AreGathered table.now.past activations.now node places.now clauses.items) }
-{
-    let mut clauses = Vec::new(alloc);
-    for k in 0..places.len() {
-        let place = places[k];
-        add_activated(table, node, activations[place as usize], &mut clauses)?;
-    }
-    Ok(clauses)
 }

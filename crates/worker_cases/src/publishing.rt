@@ -3,9 +3,8 @@ ghost use Rattle.spl_terms.specs.Clauses.{clause_symbols, is_empty};
 ghost use Rattle.proof_steps.specs.Steps.{ground_resolve};
 ghost use Rattle.proof_steps.specs.Checked.{resolution_of_lines};
 ghost use Rattle.split_tree.specs.Journal.{ledger, steps, rounds, counted};
-ghost use Rattle.split_tree.specs.Facts.{listed};
 ghost use Rattle.worker_cases.specs.declared.halt.Halt.TheVariants.{Closed};
-ghost use Rattle.worker_cases.specs.Covering.{IsCovered};
+ghost use Rattle.worker_cases.specs.Covering.{IsCovered, AddsLine};
 ghost use Rattle.worker_cases.specs.Working.{listing, IsBusy, IsMate, IsNewLine, IsWhole, pending, KeepsWork, IsStep, IsHalted, IsLeft};
 
 use crate::filing::{clause_key, is_subsumed};
@@ -67,7 +66,7 @@ fn close_case(
     requires new { IsNewLine table.old.setting table.old.past node clause line }
     requires few { counted table.old.past < table.old.setting.limits.steps }
     requires empty { is_empty line.stated.clause ≡ true }
-    requires index { IsWhole table.old.setting table.old.past index.now (pending node clause) }
+    requires index { IsWhole table.old.setting table.old.past node index.now (pending node clause) }
     ensures never { IsErr result }
     ensures halt { IfErr result (IsHalted table.old table.new) }
     ensures left { IfErr result (IsLeft table.new index.now) }
@@ -98,9 +97,8 @@ fn publish_line(
     requires few { counted table.old.past < table.old.setting.limits.steps }
     requires full { is_empty line.stated.clause ≡ false }
     ensures step { OnOk result (IsStep table.old table.new node clause) }
-    ensures lines { OnOk result (ledger table.new.setting table.new.past ≡ ledger table.old.setting table.old.past ++ line ∷ []) }
+    ensures adds { OnOk result (AddsLine (listing table.old.setting table.old.past node) (listing table.new.setting table.new.past node) line) }
     ensures work { OnOk result (KeepsWork table.old.setting table.old.past table.new.past) }
-    ensures lists { OnOk result (listed table.new.setting table.new.past node (steps table.new.setting table.new.past) ≡ true) }
     ensures setting { table.new.setting ≡ table.old.setting }
     ensures err { OnErr result (table.new.past ≡ table.old.past) }
     ensures rounds { rounds table.new.past ≡ rounds table.old.past }
@@ -153,11 +151,10 @@ fn publish(
 ) -> Result<(), Halt>
     requires busy { IsBusy table.old.setting table.old.past node clause }
     requires new { IsNewLine table.old.setting table.old.past node clause line }
-    requires index { IsWhole table.old.setting table.old.past index.now (pending node clause) }
+    requires index { IsWhole table.old.setting table.old.past node index.now (pending node clause) }
     ensures step { OnOk result (IsStep table.old table.new node clause) }
-    ensures lines { OnOk result (ledger table.new.setting table.new.past ≡ ledger table.old.setting table.old.past ++ line ∷ []) }
+    ensures adds { OnOk result (AddsLine (listing table.old.setting table.old.past node) (listing table.new.setting table.new.past node) line) }
     ensures work { OnOk result (KeepsWork table.old.setting table.old.past table.new.past) }
-    ensures lists { OnOk result (listed table.new.setting table.new.past node (steps table.new.setting table.new.past) ≡ true) }
     ensures halt { IfErr result (IsHalted table.old table.new) }
     ensures left { IfErr result (IsLeft table.new index.now) }
     ensures rounds { rounds table.new.past ≡ rounds table.old.past }
@@ -189,12 +186,12 @@ pub fn publish_conclusion(
     conclusion: Statement,
 ) -> Result<(), Halt>
     requires busy { IsBusy table.old.setting table.old.past node clause }
-    requires index { IsWhole table.old.setting table.old.past index.old (pending node clause) }
+    requires index { IsWhole table.old.setting table.old.past node index.old (pending node clause) }
     requires mate { IsMate table.old.setting table.old.past node clause m n }
     requires concluded { resolution_of_lines i part j m n (ledger table.old.setting table.old.past) ≡ Some conclusion }
     requires small { clause_symbols conclusion.clause ≤ 4096 }
     ensures step { OnOk result (IsStep table.old table.new node clause) }
-    ensures index { OnOk result (IsWhole table.new.setting table.new.past index.new (pending node clause)) }
+    ensures index { OnOk result (IsWhole table.new.setting table.new.past node index.new (pending node clause)) }
     ensures covered { OnOk result (IsCovered (listing table.new.setting table.new.past node) conclusion.clause) }
     ensures halt { IfErr result (IsHalted table.old table.new) }
     ensures left { IfErr result (IsLeft table.new index.new) }
@@ -203,7 +200,7 @@ pub fn publish_conclusion(
     if is_tautology(&conclusion.clause) {
         return Ok(());
     }
-    if is_subsumed(table, node, &index.clauses, &conclusion.clause) {
+    if is_subsumed(table, &index.clauses, &conclusion.clause) {
         return Ok(());
     }
     let key = clause_key(&conclusion.clause);
@@ -213,6 +210,8 @@ pub fn publish_conclusion(
         stated: conclusion,
     };
     publish(alloc, table, node, index, clause, line)?;
-    index.clauses.file(key, table.steps())?;
+    let number = table.steps();
+    index.clauses.file(key, number)?;
+    index.queue.add(table, node, number)?;
     Ok(())
 }

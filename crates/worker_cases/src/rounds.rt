@@ -44,7 +44,7 @@ fn split_case(
     requires busy { IsBusy table.old.setting table.old.past node clause }
     requires free { splits table.old.past < table.old.setting.limits.splits }
     requires parted { ArePartsOf table.old.setting table.old.past clause parts.now }
-    requires index { IsWhole table.old.setting table.old.past index.now nothing_else }
+    requires index { IsWhole table.old.setting table.old.past node index.now nothing_else }
     ensures between { OnOk result (IsBetween table.new.setting table.new.past) }
     ensures index { OnOk result (IsIndex table.new.setting table.new.past index.now) }
     ensures setting { table.new.setting ≡ table.old.setting }
@@ -92,8 +92,8 @@ pub fn work_round(
     index: &mut Index,
 ) -> Result<bool, Halt>
     requires idle { IsIdle table.old.setting table.old.past node }
-    requires index { IsWhole table.old.setting table.old.past index.old nothing_else }
-    ensures held { IfOk result (λ held. MatchBool held (IsIdle table.new.setting table.new.past node × IsWhole table.new.setting table.new.past index.new nothing_else) (IsBetween table.new.setting table.new.past × IsIndex table.new.setting table.new.past index.new)) }
+    requires index { IsWhole table.old.setting table.old.past node index.old nothing_else }
+    ensures held { IfOk result (λ held. MatchBool held (IsIdle table.new.setting table.new.past node × IsWhole table.new.setting table.new.past node index.new nothing_else) (IsBetween table.new.setting table.new.past × IsIndex table.new.setting table.new.past index.new)) }
     ensures setting { OnOk result (table.new.setting ≡ table.old.setting) }
     ensures halt { IfErr result (IsHalted table.old table.new) }
     ensures left { IfErr result (IsLeft table.new index.new) }
@@ -101,7 +101,7 @@ pub fn work_round(
     ensures closed { IfErr result (λ halt. halt ≡ Closed → rounds table.old.past < rounds table.new.past) }
 {
     table.reserve(1, 0)?;
-    let Some(clause) = table.pick(node) else {
+    let Some(clause) = index.queue.pick(table, node) else {
         table.apply(1, Event::Saturated { node });
         return Err(Halt::Ended);
     };

@@ -11,23 +11,12 @@ ghost use Rattle.worker_cases.specs.Partners.{is_in};
 ghost use Rattle.worker_cases.specs.Working.{listing, IsBetween, IsIdle, IsBusy, ArePartners, AreAllPartners, IsIndex, IsWhole, nothing_else, pending, IsHalted, IsLeft};
 
 use crate::halt::Halt;
-use crate::index::{Activation, Index, file_lines};
+use crate::index::{Activation, Index};
 use crate::inferring::resolve_both;
-use crate::partners::{activated_on_path, file_clause, partners_of};
+use crate::partners::{file_clause, partners_of};
 use spl_terms::{Clause, order_stays};
 use split_tree::{Event, Table};
 use std::alloc::{AllocError, Global};
-
-/// The place of the next activation.
-fn next_place(index: &Index) -> Result<u32, AllocError>
-    ensures { IfOk result (λ place. place ≡ length index.now.activations.items) }
-{
-    let place = index.activations.len();
-    if place > u32::MAX as usize {
-        return Err(AllocError);
-    }
-    Ok(place as u32)
-}
 
 /// Files the clause as one that is about to be activated at the node, and says which activated clauses may resolve with
 /// it, itself included.
@@ -39,23 +28,15 @@ fn partners_of_clause(
     clause: u32,
 ) -> Result<Vec<u32>, AllocError>
     requires busy { IsBusy table.now.setting table.now.past node clause }
-    requires index { IsWhole table.now.setting table.now.past index.old nothing_else }
-    ensures index { OnOk result (IsWhole table.now.setting table.now.past index.new (pending node clause)) }
+    requires index { IsWhole table.now.setting table.now.past node index.old nothing_else }
+    ensures index { OnOk result (IsWhole table.now.setting table.now.past node index.new (pending node clause)) }
     ensures all { IfOk result (λ partners. AreAllPartners table.now.setting table.now.past node clause partners.items) }
 {
     table.journal_is_legal();
-    let place = next_place(index)?;
     let stated = &table.line(clause).stated.clause;
-    file_clause(&mut index.literals, stated, place)?;
+    file_clause(&mut index.literals, stated, clause)?;
     index.activations.push(Activation { clause, node })?;
-    let places = partners_of(alloc, &index.literals, stated)?;
-    let partners = activated_on_path(
-        alloc,
-        table,
-        node,
-        index.activations.as_slice(),
-        places.as_slice(),
-    )?;
+    let partners = partners_of(alloc, &index.literals, stated)?;
     Ok(partners)
 }
 
@@ -71,9 +52,9 @@ pub fn work_off(
     requires busy { IsBusy table.old.setting table.old.past node clause }
     requires partners { ArePartners table.old.setting table.old.past node }
     requires unsplit { IsUnsplit table.old.setting table.old.past clause }
-    requires index { IsWhole table.old.setting table.old.past index.old nothing_else }
+    requires index { IsWhole table.old.setting table.old.past node index.old nothing_else }
     ensures idle { OnOk result (IsIdle table.new.setting table.new.past node) }
-    ensures index { OnOk result (IsWhole table.new.setting table.new.past index.new nothing_else) }
+    ensures index { OnOk result (IsWhole table.new.setting table.new.past node index.new nothing_else) }
     ensures setting { OnOk result (table.new.setting ≡ table.old.setting) }
     ensures halt { IfErr result (IsHalted table.old table.new) }
     ensures left { IfErr result (IsLeft table.new index.new) }

@@ -1,5 +1,5 @@
 //! What the table says of its journal. Nothing here takes memory.
-ghost use Rattle.std.specs.Prelude.{◌≡◌, ℕ, ◌+◌, ◌<◌, ◌≤◌, ◌||◌, if◌then◌else◌, MatchBool, MatchOption, length, option_map, reverse, slice_get, Some};
+ghost use Rattle.std.specs.Prelude.{◌≡◌, ℕ, ◌+◌, ◌<◌, ◌≤◌, ◌||◌, if◌then◌else◌, IfSome, MatchBool, MatchOption, length, option_map, reverse, slice_get, Some};
 ghost use Rattle.spl_truth.specs.Picking.{better};
 ghost use Rattle.proof_steps.specs.declared.step.Line.{Line};
 ghost use Rattle.proof_steps.specs.Steps.{numbered};
@@ -9,6 +9,7 @@ ghost use Rattle.split_tree.specs.Facts.{listed, kept, worked, split, chosen, cl
 ghost use Rattle.split_tree.specs.Picking.{is_passive, choices, weighed, pick_at};
 ghost use Rattle.split_tree.specs.Ending.{reason};
 ghost use Rattle.split_tree.specs.Legal.{IsClaimable, IsNextClaim, IsFirstEmpty};
+ghost use Rattle.split_tree.specs.Caches.{at_home, homes, own_empty, smaller};
 
 use super::Table;
 use crate::branch::Branch;
@@ -214,7 +215,29 @@ impl Table {
 
 // ---- clauses at a node
 
+/// The smaller number of two, as far as there are some.
+fn smaller(first: Option<u32>, second: Option<u32>) -> Option<u32>
+    ensures { result ≡ smaller first second }
+{
+    match (first, second) {
+        (Some(first), Some(second)) => Some(first.min(second)),
+        (None, second) => second,
+        (first, None) => first,
+    }
+}
+
 impl Table {
+    /// The node, from 0, where the clause was published or assumed, the root for an input clause; none for a clause
+    /// within a chain. The clause is listed where that node is on the path.
+    pub fn home(&self, clause: u32) -> Option<u32>
+        requires some { 1 ≤ clause }
+        requires there { clause ≤ steps self.now.setting self.now.past }
+        ensures lists { (m : ℕ) → m < nodes self.now.past → listed self.now.setting self.now.past m clause ≡ at_home (on_path self.now.past m) result }
+        ensures node { IfSome result (λ home. home < nodes self.now.past) }
+    {
+        self.homes[clause as usize - 1]
+    }
+
     /// Whether the clause is listed at the node.
     pub fn listed(&self, node: u32, clause: u32) -> bool
         requires node { node < nodes self.now.past }
@@ -222,7 +245,7 @@ impl Table {
         requires there { clause ≤ steps self.now.setting self.now.past }
         ensures { result ≡ listed self.now.setting self.now.past node clause }
     {
-        match self.homes[clause as usize - 1] {
+        match self.home(clause) {
             Some(home) => self.on_path(node, home),
             None => false,
         }
@@ -238,17 +261,29 @@ impl Table {
         self.listed(node, clause)
     }
 
+    /// The first empty clause that was published or assumed at the node itself.
+    fn own_empty(&self, node: u32) -> Option<u32>
+        requires { node < nodes self.now.past }
+        ensures { result ≡ own_empty node 1 (homes self.now.setting self.now.past) (ledger self.now.setting self.now.past) }
+    {
+        self.empties[node as usize]
+    }
+
     /// The empty clause with the smallest number that is listed at the node; none exactly where the node is live.
     pub fn first_empty(&self, node: u32) -> Option<u32>
         requires { node < nodes self.now.past }
         ensures { MatchOption result (IsLive self.now.setting self.now.past node) (λ n. IsFirstEmpty self.now.setting self.now.past node n) }
     {
-        for number in &self.empties {
-            if self.listed(node, *number) {
-                return Some(*number);
+        self.journal_is_legal();
+        let mut first = None;
+        let mut at = node;
+        loop {
+            first = smaller(first, self.own_empty(at));
+            match self.branch(at) {
+                Some(branch) => at = branch.parent,
+                None => return first,
             }
         }
-        None
     }
 
     /// Whether no empty clause is listed at the node.
@@ -352,39 +387,26 @@ impl Table {
 // ---- the pick
 
 impl Table {
-    /// Whether the clause was activated or split at a node of the path, by a look at all that were.
-    fn was_retired(&self, node: u32, clause: u32) -> bool
-        requires { node < nodes self.now.past }
-        ensures { result ≡ (worked self.now.past node clause || split self.now.past node clause) }
-    {
-        for retired in &self.retired {
-            if retired.clause == clause && self.on_path(node, retired.node) {
-                return true;
-            }
-        }
-        false
-    }
-
-    /// Whether the clause was activated or split at a node of the path.
+    /// Whether the clause was activated or split at a node of the path, by a look at the nodes where it was.
     fn is_retired(&self, node: u32, clause: u32) -> bool
         requires node { node < nodes self.now.past }
         requires some { 1 ≤ clause }
         requires there { clause ≤ steps self.now.setting self.now.past }
         ensures { result ≡ (worked self.now.past node clause || split self.now.past node clause) }
     {
-        match self.firsts[clause as usize - 1] {
-            None => false,
-            Some(first) => {
-                if self.on_path(node, first) {
-                    return true;
-                }
-                self.was_retired(node, clause)
+        let mut next = self.newest[clause as usize - 1];
+        while let Some(place) = next {
+            let retired = self.retired[place];
+            if self.on_path(node, retired.node) {
+                return true;
             }
+            next = retired.older;
         }
+        false
     }
 
     /// Whether the clause is passive at the node.
-    fn is_passive(&self, node: u32, clause: u32) -> bool
+    pub fn passive(&self, node: u32, clause: u32) -> bool
         requires node { node < nodes self.now.past }
         requires some { 1 ≤ clause }
         requires there { clause ≤ steps self.now.setting self.now.past }
@@ -394,7 +416,7 @@ impl Table {
     }
 
     /// How many clauses were chosen at nodes of the path.
-    fn choices(&self, node: u32) -> usize
+    pub fn choices(&self, node: u32) -> usize
         requires { node < nodes self.now.past }
         ensures { result ≡ choices self.now.past node }
     {
@@ -427,7 +449,7 @@ impl Table {
         ensures { (l : Line) → numbered (ledger self.now.setting self.now.past) clause ≡ Some l
             → result ≡ (if is_passive self.now.setting self.now.past node clause then better by_age best (weighed clause l) else best) }
     {
-        if self.is_passive(node, clause) {
+        if self.passive(node, clause) {
             better(by_age, best, self.weighed(clause))
         } else {
             best
@@ -436,8 +458,8 @@ impl Table {
 
     /// The clause that is to be chosen next at the node; none where nothing is passive there.
     ///
-    /// It goes over the numbers of all clauses, and for a clause that was activated or split in another case alone over
-    /// all that were.
+    /// This is the plain slow call, whose contract is the definition: it goes over the numbers of all clauses. A worker
+    /// keeps a queue of its own instead.
     pub fn pick(&self, node: u32) -> Option<u32>
         requires { node < nodes self.now.past }
         ensures { result ≡ pick_at self.now.setting self.now.past node }

@@ -9,11 +9,10 @@ pub loop-index-init : goal.loop-index-init
 loop-index-init c =
     let t = c.args.table.now in
     let sound : IsSound t.setting [] = subst (IsSound t.setting) c.requires.begun (sound_of c.order_stays.ensures t.setting t.past c.journal_is_legal.ensures c.ledger_is_concluded.ensures) in
-    let e = c.new-index.ensures in
     record {
       setting = refl;
       between = subst (IsBetween t.setting) (sym c.requires.begun) (root_between t.setting c.requires.one c.requires.nonempty sound);
-      index = subst (λ p. IsIndex t.setting p c.new-index.result) (sym c.requires.begun) (root_index t.setting c.new-index.result e.clauses e.no_clause e.none e.literals e.no_literal);
+      index = subst (λ p. IsIndex t.setting p c.new-index.result) (sym c.requires.begun) (root_index t.setting c.new-index.result c.new-index.ensures.activations c.new-index.ensures.lines c.new-index.ensures.seen);
     }
 
 pub loop-index-smaller : goal.loop-index-smaller

@@ -10,5 +10,5 @@ loop-smaller c =
     let new = c.work_round.new.table in
     let index = c.work_round.new.index in
     let m = c.args.node in
-    let held = subst (λ b. MatchBool b (IsIdle new.setting new.past m × IsWhole new.setting new.past index nothing_else) (IsBetween new.setting new.past × IsIndex new.setting new.past index)) c.in-Ok-true.field-0-test r.held in
+    let held = subst (λ b. MatchBool b (IsIdle new.setting new.past m × IsWhole new.setting new.past m index nothing_else) (IsBetween new.setting new.past × IsIndex new.setting new.past index)) c.in-Ok-true.field-0-test r.held in
     omega (arith, r.more, rounds_bound new.setting new.past held.0.working.rests.sound.legal, ap (λ s. s.limits.rounds) (r.setting ∙ c.loop.invariant.setting))

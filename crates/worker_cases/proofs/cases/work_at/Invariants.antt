@@ -7,7 +7,7 @@ abbrev pub invariant-loop : goal.invariant-loop
 invariant-loop l = record {
   setting : l.table.setting ≡ l.fn.table.setting;
   idle : IsIdle l.table.setting l.table.past l.node;
-  index : IsWhole l.table.setting l.table.past l.index nothing_else;
+  index : IsWhole l.table.setting l.table.past l.node l.index nothing_else;
   more : rounds l.fn.table.past ≤ rounds l.table.past;
 }
 

@@ -1,9 +1,9 @@
-use Rattle.worker_cases.specs.Working.{listing}
+use Rattle.split_tree.specs.Journal.{ledger}
 use Rattle.worker_cases.proofs.FilingLemmas.{IsUnderWay}
 use Rattle.worker_cases.proofs.filing.is_subsumed_at.Given as goal
 
 abbrev pub invariant-loop-entry : goal.invariant-loop-entry
-invariant-loop-entry l = IsUnderWay (listing l.table.setting l.table.past l.node) l.filing.entries.items l.key l.clause l.number
+invariant-loop-entry l = IsUnderWay (ledger l.table.setting l.table.past) l.filing.entries.items l.key l.clause l.number
 
 abbrev pub decreases-loop-entry : goal.decreases-loop-entry
 decreases-loop-entry l = l.number

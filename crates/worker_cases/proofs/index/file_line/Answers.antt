@@ -1,9 +1,23 @@
+use Rattle.std.proofs.Common.{◌∙◌, sym, subst}
+use Rattle.proof_steps.specs.declared.step.Line.{Line}
 use Rattle.split_tree.specs.Journal.{ledger}
-use Rattle.worker_cases.proofs.FilingLemmas.{first_more}
+use Rattle.split_tree.specs.Facts.{listed}
+use Rattle.worker_cases.specs.Filing.{clause_key, IsFiled}
+use Rattle.worker_cases.proofs.FilingLemmas.{wanted, files_added, filed_added}
+use Rattle.worker_cases.proofs.WorkLemmas.{the_line}
 use Rattle.worker_cases.proofs.index.file_line.Goals as goal
 
-pub returns : goal.returns
-returns c =
+pub returns-in_ok-file-clause-wanted : goal.returns-in_ok-file-clause-wanted
+returns-in_ok-file-clause-wanted c =
     let t = c.args.table.now in
-    let r = first_more (ledger t.setting t.past) c.args.number c.line.result.now c.args.clauses.now c.file.new.self c.clause_key-key.result c.requires.some c.line.ensures c.clause_key-key.ensures c.requires.filed c.requires.next c.file.ensures.linked c.in_ok-file.ensures.added in
-    record { filed = r.0; next = r.1 }
+    let old = c.args.clauses.now.entries.items in
+    let new = c.file.new.self.entries.items in
+    wanted (listed t.setting t.past c.args.node c.args.number) old new c.args.number (sym c.listed.ensures ∙ c.if-listed.true) (files_added old new c.clause_key-key.result c.args.number c.in_ok-file.ensures.added)
+
+pub returns-in_ok-file-clause-own : goal.returns-in_ok-file-clause-own
+returns-in_ok-file-clause-own c = λ l on is.
+    let t = c.args.table.now in
+    let old = c.args.clauses.now.entries.items in
+    let new = c.file.new.self.entries.items in
+    the_line (ledger t.setting t.past) c.args.number c.line.result.now l (λ (x : Line). IsFiled new (clause_key x.stated.clause) c.args.number) c.line.ensures is
+    (subst (λ q. IsFiled new q c.args.number) c.clause_key-key.ensures (filed_added old new c.clause_key-key.result c.args.number c.in_ok-file.ensures.added))

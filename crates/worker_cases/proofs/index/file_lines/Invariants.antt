@@ -1,10 +1,7 @@
-use Rattle.std.proofs.Common.{◌≡◌, length}
-use Rattle.split_tree.specs.Journal.{ledger}
-use Rattle.worker_cases.specs.Filing.{HasFiledFirst}
+use Rattle.worker_cases.specs.Working.{listing}
+use Rattle.worker_cases.proofs.FilingLemmas.{HasFiledOf}
+use Rattle.worker_cases.proofs.LineLemmas.{IsEarlyLine}
 use Rattle.worker_cases.proofs.index.file_lines.Given as goal
 
 abbrev pub invariant-loop-k : goal.invariant-loop-k
-invariant-loop-k l = record {
-  filed : HasFiledFirst (ledger l.table.setting l.table.past) l.clauses;
-  next : length l.clauses.entries.items ≡ l.k;
-}
+invariant-loop-k l = HasFiledOf (listing l.table.setting l.table.past l.node) (IsEarlyLine l.numbers l.k) l.clauses

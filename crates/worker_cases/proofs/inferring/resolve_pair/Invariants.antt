@@ -7,7 +7,7 @@ use Rattle.worker_cases.proofs.inferring.resolve_pair.Given as goal
 abbrev pub invariant-loop-i : goal.invariant-loop-i
 invariant-loop-i l = record {
   step : IsStep l.fn.table l.table l.node l.clause;
-  index : IsWhole l.table.setting l.table.past l.index (pending l.node l.clause);
+  index : IsWhole l.table.setting l.table.past l.node l.index (pending l.node l.clause);
   rounds : rounds l.table.past ≡ rounds l.fn.table.past;
   before : CoversRows (listing l.table.setting l.table.past l.node) l.m l.n l.i;
 }

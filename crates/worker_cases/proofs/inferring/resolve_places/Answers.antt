@@ -1,4 +1,4 @@
-use Rattle.std.proofs.Common.{◌≡◌, ◌==◌, ◌∙◌, refl, sym, subst, Some, Err}
+use Rattle.std.proofs.Common.{◌==◌, ◌∙◌, refl, sym, subst, Err}
 use Rattle.proof_steps.specs.Steps.{Sized}
 use Rattle.proof_steps.specs.Checked.{resolution_of_lines}
 use Rattle.split_tree.specs.Journal.{ledger}

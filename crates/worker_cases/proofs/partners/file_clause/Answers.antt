@@ -1,7 +1,8 @@
 use Rattle.std.proofs.Common.{subst}
 use Rattle.worker_cases.specs.Filing.{before_arrow, after_arrow}
 use Rattle.worker_cases.specs.Partners.{HasAtoms}
-use Rattle.worker_cases.proofs.PartnerLemmas.{files_more, atoms_kept, three_parts}
+use Rattle.worker_cases.proofs.FilingLemmas.{files_more}
+use Rattle.worker_cases.proofs.PartnerLemmas.{atoms_kept, three_parts}
 use Rattle.worker_cases.proofs.partners.file_clause.Goals as goal
 
 pub returns-clause-only : goal.returns-clause-only

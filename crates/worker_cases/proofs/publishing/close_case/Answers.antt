@@ -1,7 +1,5 @@
-use Rattle.std.proofs.Common.{◌≡◌, ◌∙◌, ◌∷◌, [], Bool, true, false, Option, Some, None, refl, sym, ap, subst}
-use Rattle.std.specs.Prelude.{is_some}
+use Rattle.std.proofs.Common.{◌∷◌, [], false, sym, subst}
 use Rattle.split_tree.specs.declared.event.Event.TheVariants.{Publish}
-use Rattle.split_tree.specs.declared.event.End.{End}
 use Rattle.split_tree.specs.Ending.{reason}
 use Rattle.split_tree.specs.Legal.{IsLegal, IsSettled}
 use Rattle.split_tree.proofs.Legals.{unended}

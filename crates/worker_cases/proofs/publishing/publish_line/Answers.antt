@@ -5,7 +5,7 @@ use Rattle.split_tree.specs.Legal.{IsLegal}
 use Rattle.worker_cases.proofs.OrderLemmas.{sound_of}
 use Rattle.worker_cases.proofs.TreeLemmas.{published}
 use Rattle.worker_cases.proofs.LegalLemmas.{legal_publish}
-use Rattle.worker_cases.proofs.EventLemmas.{moved, publish_step, publish_listed}
+use Rattle.worker_cases.proofs.EventLemmas.{moved, publish_step, publish_adds}
 use Rattle.worker_cases.specs.Working.{KeepsWork}
 use Rattle.worker_cases.proofs.IndexLemmas.{publish_work}
 use Rattle.worker_cases.proofs.publishing.publish_line.Goals as goal
@@ -30,13 +30,13 @@ returns-clause-step c =
     (c.apply.ensures.past ∙ ap (λ chain. record { by = 1; event = Publish c.owner-at.result chain false } ∷ c.reserve.new.self.past) c.in_ok-chain_of.ensures ∙ ap (λ p. published 1 c.owner-at.result c.args.line ∷ p) r.past)
     (sound_of c.order_stays.ensures new.setting new.past c.journal_is_legal.ensures c.ledger_is_concluded.ensures)
 
-pub returns-clause-lists : goal.returns-clause-lists
-returns-clause-lists c =
+pub returns-clause-adds : goal.returns-clause-adds
+returns-clause-adds c =
     let t = c.args.table.now in
     let r = c.reserve.ensures in
     let new = c.apply.new.self in
     let at : c.owner-at.result ≡ owner t.past c.args.line.stated.deps c.args.node = c.owner-at.ensures ∙ ap (λ p. owner p c.args.line.stated.deps c.args.node) r.past in
-    publish_listed t new c.args.node c.args.clause c.owner-at.result c.args.line c.requires.busy at
+    publish_adds t new c.args.node c.args.clause c.owner-at.result c.args.line c.requires.busy at
     (c.apply.ensures.setting ∙ r.setting)
     (c.apply.ensures.past ∙ ap (λ chain. record { by = 1; event = Publish c.owner-at.result chain false } ∷ c.reserve.new.self.past) c.in_ok-chain_of.ensures ∙ ap (λ p. published 1 c.owner-at.result c.args.line ∷ p) r.past)
 

@@ -1,4 +1,4 @@
-use Rattle.std.proofs.Common.{◌∙◌, subst}
+use Rattle.std.proofs.Common.{subst}
 use Rattle.worker_cases.specs.Working.{IsBusy, ArePartners, IsSound}
 use Rattle.worker_cases.proofs.OrderLemmas.{sound_of}
 use Rattle.worker_cases.proofs.EventLemmas.{moved, after_choice, choice_busy, choice_partners}

@@ -1,4 +1,4 @@
-use Rattle.std.proofs.Common.{◌≡◌, ◌∙◌, true, sym, ap, subst}
+use Rattle.std.proofs.Common.{sym, subst}
 use Rattle.std.specs.Prelude.{MatchBool}
 use Rattle.split_tree.specs.Legal.{IsLegalJournal, IsSettled}
 use Rattle.clause_splitting.specs.Splitting.{IsSplitBy, IsFullBy}

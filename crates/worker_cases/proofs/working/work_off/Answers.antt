@@ -1,4 +1,4 @@
-use Rattle.std.proofs.Common.{◌≡◌, ◌∙◌, Some, refl, sym, ap, subst, arith}
+use Rattle.std.proofs.Common.{◌≡◌, ◌∙◌, Some, ap, subst, arith}
 use Rattle.std.specs.List.{slice_get}
 use Rattle.split_tree.specs.declared.event.Event.TheVariants.{Activate}
 use Rattle.split_tree.specs.Legal.{IsLegal}
@@ -70,5 +70,5 @@ returns-clause-index c =
     let u = c.loop-k.table in
     let new = c.apply.new.self in
     let r = c.reserve.ensures in
-    moved (λ s p. IsWhole s p c.loop-k.index nothing_else) u.setting new.setting (after_activation u.past m) new.past (c.apply.ensures.setting ∙ r.setting) (c.apply.ensures.past ∙ ap (λ p. after_activation p m) r.past)
+    moved (λ s p. IsWhole s p m c.loop-k.index nothing_else) u.setting new.setting (after_activation u.past m) new.past (c.apply.ensures.setting ∙ r.setting) (c.apply.ensures.past ∙ ap (λ p. after_activation p m) r.past)
     (activated_whole u.setting u.past m c.args.clause c.loop-k.index c.loop-k.invariant.step.busy c.loop-k.invariant.index)

@@ -19,7 +19,7 @@ invariant_of-self-2 c =
       empties_are = rw (c.reserve.ensures.items, c.reserve-7.ensures.items) i.empties_are;
       weights_are = rw (c.reserve.ensures.items, c.reserve-8.ensures.items) i.weights_are;
       retired_are = rw (c.reserve.ensures.items, c.reserve-10.ensures.items) i.retired_are;
-      firsts_are = rw (c.reserve.ensures.items, c.reserve-9.ensures.items) i.firsts_are;
+      newest_are = rw (c.reserve.ensures.items, c.reserve-9.ensures.items) i.newest_are;
       states_are = rw (c.reserve.ensures.items, c.reserve-3.ensures.items) i.states_are;
       seats_are = rw c.reserve.ensures.items i.seats_are;
       leaves_are = rw (c.reserve.ensures.items, c.reserve-4.ensures.items) i.leaves_are;
@@ -37,6 +37,6 @@ invariant_of-self-2 c =
       spots_room = omega (arith, c.reserve-6.ensures.len, c.in_ok-reserve-6.ensures.ok);
       empties_room = omega (arith, c.reserve-7.ensures.len, c.in_ok-reserve-7.ensures.ok);
       weights_room = omega (arith, c.reserve-8.ensures.len, c.in_ok-reserve-8.ensures.ok);
-      firsts_room = omega (arith, c.reserve-9.ensures.len, c.in_ok-reserve-9.ensures.ok);
+      newest_room = omega (arith, c.reserve-9.ensures.len, c.in_ok-reserve-9.ensures.ok);
       retired_room = omega (arith, c.reserve-10.ensures.len, c.in_ok-reserve-10.ensures.ok);
     }

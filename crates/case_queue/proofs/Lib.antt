@@ -1,0 +1,6 @@
+pub mod Lines
+pub mod Keeping
+pub mod Best
+pub mod Oldest
+pub mod Lightest
+pub mod Holding
