@@ -7,8 +7,7 @@ use Rattle.spl_terms.specs.Clauses.{no_atoms, is_empty, IsEmpty, in_order}
 use Rattle.spl_truth.specs.Truth.{is_ground}
 use Rattle.spl_truth.proofs.Replacing.{and_parts}
 use Rattle.dep_sets.specs.declared.deps.Assumption.{Assumption}
-use Rattle.proof_steps.specs.Parts.{Parted, part_by, parted_by, left_marks, parts_of, negation, negated_atom}
-use Rattle.proof_steps.specs.Marking.{part_of_side}
+use Rattle.clause_parts.specs.Parts.{Parted, part_by, part_of_side, parted_by, left_marks, parts_of, negation, negated_atom}
 use Rattle.proof_steps.specs.Steps.{states, assumed}
 
 -- ---- parts that are stated

@@ -7,7 +7,7 @@ use Rattle.spl_terms.specs.declared.clause.Clause.{Clause}
 use Rattle.spl_terms.specs.Clauses.{replace_in, IsEmpty}
 use Rattle.spl_truth.specs.Truth.{is_ground, IsGroundInstance, holds, atom_eq, FollowsAt, Follows}
 use Rattle.spl_truth.proofs.Replacing.{and_parts, constant, ground-App}
-use Rattle.proof_steps.specs.Parts.{Parted, parts_of}
+use Rattle.clause_parts.specs.Parts.{Parted, parts_of}
 use Rattle.proof_steps.specs.Steps.{joined, assumed}
 use Rattle.proof_steps.specs.Checked.{negations, side_clauses}
 use Rattle.proof_steps.proofs.Steps.{some_inj}

@@ -1,35 +1,17 @@
 -- What the definitions give on small clauses, computed. Places count from 0, and numbers of statements from 1.
-use Rattle.std.proofs.Common.{◌≡◌, ℕ, true, false, ◌||◌, if◌then◌else◌, List, [], ◌∷◌, Option, Some, None, option_map, option_and_then, refl, ap, ◌∙◌}
-use Rattle.spl_terms.specs.declared.term.Kind.TheVariants.{Function, Predicate, Sort}
+use Rattle.std.proofs.Common.{◌≡◌, ℕ, true, false, List, [], ◌∷◌, Option, Some, None, option_map, option_and_then, refl, ap, ◌∙◌}
+use Rattle.spl_terms.specs.declared.term.Kind.TheVariants.{Function, Sort}
 use Rattle.spl_terms.specs.declared.term.Term.{Term, Var, App}
-use Rattle.spl_terms.specs.declared.term.Term.TheViews.{outs-Var, outs-App}
 use Rattle.spl_terms.specs.declared.atom.Atom.{Atom}
 use Rattle.spl_terms.specs.declared.atom.Atom.TheVariants.{Holds, Equal}
 use Rattle.spl_terms.specs.declared.clause.Part.TheVariants.{Constraint, Antecedent}
-use Rattle.spl_terms.specs.declared.clause.Clause.{Clause}
-use Rattle.spl_terms.proofs.TermLemmas.{term_eq-Var-Var, term_eq-Var-App, term_eq-App-Var, term_eq-App-App}
-use Rattle.spl_terms.proofs.NumberLemmas.{term_variables-Var, term_variables-App}
-use Rattle.spl_truth.proofs.Replacing.{replace-Var, replace-App, ground-Var, ground-App}
 use Rattle.proof_steps.specs.declared.step.Statement.{Statement}
 use Rattle.proof_steps.specs.declared.step.Rule.{Rule}
 use Rattle.proof_steps.specs.declared.step.Rule.TheVariants.{Input, Resolve, Factor, Paramodulate, Reflex, EqFactor, Assume, CaseLeft, CaseRight, CaseBoth}
-use Rattle.spl_terms.specs.Clauses.{atom_variables}
-use Rattle.proof_steps.specs.Parts.{share, variable_lists, spread, component, has_succedent, first_head, if_rest, parted_by, parts_of}
+use Rattle.clause_parts.proofs.Examples.{folds, constant, a, b, holds, clause, either, parts_either, linked, parts_linked}
 use Rattle.proof_steps.specs.Steps.{states, side_of, assumed, conclude}
 
 -- ---- the words of the examples
-
--- how the definitions by recursion on terms compute
-ruleset folds = (term_eq-Var-Var, term_eq-Var-App, term_eq-App-Var, term_eq-App-App, term_variables-Var, term_variables-App, replace-Var, replace-App, ground-Var, ground-App, outs-Var, outs-App)
-
-abbrev constant : ℕ → Term
-constant n = App (record { number = n; kind = Function }) []
-
-abbrev a : Term
-a = constant 0
-
-abbrev b : Term
-b = constant 1
 
 abbrev c : Term
 c = constant 2
@@ -37,15 +19,8 @@ c = constant 2
 abbrev f : Term → Term
 f t = App (record { number = 3; kind = Function }) (t ∷ [])
 
-abbrev holds : ℕ → Term → Atom
-holds n t = Holds (record { number = n; kind = Predicate }) (t ∷ [])
-
 abbrev of_sort : Term → Atom
 of_sort t = Holds (record { number = 6; kind = Sort }) (t ∷ [])
-
--- constraint, antecedent and succedent
-abbrev clause : List Atom → List Atom → List Atom → Clause
-clause constraint antecedent succedent = record { constraint = constraint; antecedent = antecedent; succedent = succedent }
 
 abbrev plain : List Atom → List Atom → List Atom → Statement
 plain constraint antecedent succedent = states (clause constraint antecedent succedent) []
@@ -97,63 +72,28 @@ example_eqf = simp folds
 -- ---- splits
 
 -- P(a) or Q(b)
-abbrev either : Statement
-either = plain [] [] (holds 4 a ∷ holds 5 b ∷ [])
+abbrev either_stated : Statement
+either_stated = states either []
 
--- atoms without variables share none
-apart_either : share (atom_variables (holds 5 b)) (atom_variables (holds 4 a)) ≡ false
-apart_either = simp folds
-
-spread_either : spread (variable_lists either.clause) (true ∷ false ∷ []) ≡ true ∷ false ∷ []
-spread_either = λ i. true ∷ (apart_either i || false) ∷ []
-
-parts_either : parts_of either.clause ≡ Some (record { left = clause [] [] (holds 4 a ∷ []); right = clause [] [] (holds 5 b ∷ []); left_ground = true })
-parts_either =
-    ap (λ marks. option_map (parted_by either.clause) (option_and_then (if_rest either.clause) (if has_succedent either.clause marks then Some marks else first_head 1 1 either.clause))) (ap (spread (variable_lists either.clause)) spread_either ∙ spread_either)
-    ∙ simp folds
-
-pub example_asm_left : gives (either ∷ []) (Assume 1 None) (1 ∷ []) ≡ Some (states (clause [] [] (holds 4 a ∷ [])) (side_of 1 1 ∷ []))
+pub example_asm_left : gives (either_stated ∷ []) (Assume 1 None) (1 ∷ []) ≡ Some (states (clause [] [] (holds 4 a ∷ [])) (side_of 1 1 ∷ []))
 example_asm_left = ap (λ parts. option_map (λ d. states d (side_of 1 1 ∷ [])) (option_and_then (assumed 1 None) parts)) parts_either
 
-pub example_asm_right : gives (either ∷ []) (Assume 2 None) (1 ∷ []) ≡ Some (states (clause [] [] (holds 5 b ∷ [])) (side_of 1 2 ∷ []))
+pub example_asm_right : gives (either_stated ∷ []) (Assume 2 None) (1 ∷ []) ≡ Some (states (clause [] [] (holds 5 b ∷ [])) (side_of 1 2 ∷ []))
 example_asm_right = ap (λ parts. option_map (λ d. states d (side_of 1 2 ∷ [])) (option_and_then (assumed 2 None) parts)) parts_either
 
 -- in the second case the left part may be assumed to be false
-pub example_asm_negated : gives (either ∷ []) (Assume 2 (Some 0)) (1 ∷ []) ≡ Some (states (clause [] (holds 4 a ∷ []) []) (side_of 1 2 ∷ []))
+pub example_asm_negated : gives (either_stated ∷ []) (Assume 2 (Some 0)) (1 ∷ []) ≡ Some (states (clause [] (holds 4 a ∷ []) []) (side_of 1 2 ∷ []))
 example_asm_negated = ap (λ parts. option_map (λ d. states d (side_of 1 2 ∷ [])) (option_and_then (assumed 2 (Some 0)) parts)) parts_either ∙ simp folds
 
 -- P(x) or Q(x) or R(b): the atoms of x stay together
-abbrev linked : Statement
-linked = plain [] [] (holds 4 (Var 0) ∷ holds 5 (Var 0) ∷ holds 8 b ∷ [])
+abbrev linked_stated : Statement
+linked_stated = states linked []
 
-together : share (atom_variables (holds 5 (Var 0))) (atom_variables (holds 4 (Var 0))) ≡ true
-together = simp folds
-
-apart_first : share (atom_variables (holds 8 b)) (atom_variables (holds 4 (Var 0))) ≡ false
-apart_first = simp folds
-
-apart_second : share (atom_variables (holds 8 b)) (atom_variables (holds 5 (Var 0))) ≡ false
-apart_second = simp folds
-
-spread_first : spread (variable_lists linked.clause) (true ∷ false ∷ false ∷ []) ≡ true ∷ true ∷ false ∷ []
-spread_first = λ i. true ∷ (together i || false) ∷ (apart_first i || false) ∷ []
-
-spread_second : spread (variable_lists linked.clause) (true ∷ true ∷ false ∷ []) ≡ true ∷ true ∷ false ∷ []
-spread_second = λ i. true ∷ true ∷ (apart_first i || (apart_second i || false)) ∷ []
-
-component_linked : component 0 (variable_lists linked.clause) ≡ true ∷ true ∷ false ∷ []
-component_linked = ap (λ marks. spread (variable_lists linked.clause) (spread (variable_lists linked.clause) marks)) spread_first ∙ ap (spread (variable_lists linked.clause)) spread_second ∙ spread_second
-
-parts_linked : parts_of linked.clause ≡ Some (record { left = clause [] [] (holds 4 (Var 0) ∷ holds 5 (Var 0) ∷ []); right = clause [] [] (holds 8 b ∷ []); left_ground = false })
-parts_linked =
-    ap (λ marks. option_map (parted_by linked.clause) (option_and_then (if_rest linked.clause) (if has_succedent linked.clause marks then Some marks else first_head 2 1 linked.clause))) component_linked
-    ∙ simp folds
-
-pub example_asm_component : gives (linked ∷ []) (Assume 1 None) (1 ∷ []) ≡ Some (states (clause [] [] (holds 4 (Var 0) ∷ holds 5 (Var 0) ∷ [])) (side_of 1 1 ∷ []))
+pub example_asm_component : gives (linked_stated ∷ []) (Assume 1 None) (1 ∷ []) ≡ Some (states (clause [] [] (holds 4 (Var 0) ∷ holds 5 (Var 0) ∷ [])) (side_of 1 1 ∷ []))
 example_asm_component = ap (λ parts. option_map (λ d. states d (side_of 1 1 ∷ [])) (option_and_then (assumed 1 None) parts)) parts_linked
 
 -- a left part with variables has no negation
-pub example_asm_negated_variables : gives (linked ∷ []) (Assume 2 (Some 0)) (1 ∷ []) ≡ None
+pub example_asm_negated_variables : gives (linked_stated ∷ []) (Assume 2 (Some 0)) (1 ∷ []) ≡ None
 example_asm_negated_variables = ap (λ parts. option_map (λ d. states d (side_of 1 2 ∷ [])) (option_and_then (assumed 2 (Some 0)) parts)) parts_linked
 
 -- nothing where all succedent atoms hang together
@@ -164,15 +104,15 @@ example_asm_none = simp folds
 abbrev closed : ℕ → Statement
 closed side = states (clause [] [] []) (side_of 1 side ∷ [])
 
-pub example_cal : gives (either ∷ closed 1 ∷ []) CaseLeft (1 ∷ 2 ∷ []) ≡ Some (plain [] [] (holds 5 b ∷ []))
+pub example_cal : gives (either_stated ∷ closed 1 ∷ []) CaseLeft (1 ∷ 2 ∷ []) ≡ Some (plain [] [] (holds 5 b ∷ []))
 example_cal = ap (option_map (λ parts. states parts.right [])) parts_either
 
-pub example_car : gives (either ∷ closed 2 ∷ []) CaseRight (1 ∷ 2 ∷ []) ≡ Some (plain [] [] (holds 4 a ∷ []))
+pub example_car : gives (either_stated ∷ closed 2 ∷ []) CaseRight (1 ∷ 2 ∷ []) ≡ Some (plain [] [] (holds 4 a ∷ []))
 example_car = ap (option_map (λ parts. states parts.left [])) parts_either
 
-pub example_cab : gives (either ∷ closed 1 ∷ closed 2 ∷ []) CaseBoth (1 ∷ 2 ∷ 3 ∷ []) ≡ Some (plain [] [] [])
+pub example_cab : gives (either_stated ∷ closed 1 ∷ closed 2 ∷ []) CaseBoth (1 ∷ 2 ∷ 3 ∷ []) ≡ Some (plain [] [] [])
 example_cab = refl
 
 -- the closed sides in the wrong order close nothing
-pub example_cab_exchanged : gives (either ∷ closed 1 ∷ closed 2 ∷ []) CaseBoth (1 ∷ 3 ∷ 2 ∷ []) ≡ None
+pub example_cab_exchanged : gives (either_stated ∷ closed 1 ∷ closed 2 ∷ []) CaseBoth (1 ∷ 3 ∷ 2 ∷ []) ≡ None
 example_cab_exchanged = refl

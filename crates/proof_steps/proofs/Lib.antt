@@ -1,11 +1,8 @@
 pub mod Steps
-pub mod Marks
 pub mod CaseLemmas
 pub mod Options
 pub mod Resolution
 pub mod Cut
-pub mod Closure
-pub mod Joint
 pub mod PartTruths
 pub mod BothParts
 pub mod Negations

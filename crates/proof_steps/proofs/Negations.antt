@@ -10,14 +10,14 @@ use Rattle.spl_terms.specs.declared.clause.Clause.{Clause}
 use Rattle.spl_terms.specs.Clauses.{atom_variables, atoms_of, is_of_sort, replace_in_atom, replace_in, in_order}
 use Rattle.spl_truth.specs.Truth.{is_ground_atom, is_ground, IsGroundInstance, IsUsable, truth, atom_eq, FollowsAt}
 use Rattle.spl_truth.proofs.Replacing.{and_parts, at_each, atom-replace-replace}
-use Rattle.proof_steps.specs.Parts.{as_true, as_false, negation, negated_atom}
+use Rattle.clause_parts.specs.Parts.{as_true, as_false, negation, negated_atom}
 use Rattle.proof_steps.specs.Steps.{joined}
 use Rattle.proof_steps.specs.Checked.{negations}
 use Rattle.proof_steps.proofs.Steps.{ground_atom, no_numbers}
-use Rattle.proof_steps.proofs.Marks.{get-front, get-behind}
+use Rattle.clause_parts.proofs.Marks.{get-front, get-behind}
 use Rattle.proof_steps.proofs.Options.{mapped, Contains-get}
 use Rattle.proof_steps.proofs.Resolution.{negative, either_joined}
-use Rattle.proof_steps.proofs.Joint.{agree_atom, or_true}
+use Rattle.clause_parts.proofs.Joint.{agree_atom, or_true}
 
 -- ---- elements
 

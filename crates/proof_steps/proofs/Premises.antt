@@ -10,10 +10,10 @@ use Rattle.dep_sets.proofs.Order.{same-is_same}
 use Rattle.dep_sets.proofs.Sets.{united_contains, without_contains}
 use Rattle.proof_steps.specs.declared.step.Statement.{Statement}
 use Rattle.proof_steps.specs.declared.step.Line.{Line}
-use Rattle.proof_steps.specs.Parts.{Parted, parts_of}
+use Rattle.clause_parts.specs.Parts.{Parted, parts_of}
 use Rattle.proof_steps.specs.Steps.{numbered, side_of}
 use Rattle.proof_steps.specs.Checked.{stated, side_clauses, assumption_clauses, premises}
-use Rattle.proof_steps.proofs.Joint.{or_true}
+use Rattle.clause_parts.proofs.Joint.{or_true}
 
 -- ---- elements
 

@@ -16,7 +16,7 @@ use Rattle.proof_steps.specs.declared.step.Statement.{Statement}
 use Rattle.proof_steps.specs.declared.step.Rule.{Rule}
 use Rattle.proof_steps.specs.declared.step.Rule.TheVariants.{Input, Resolve, Factor, Paramodulate, Reflex, EqFactor, Assume, CaseLeft, CaseRight, CaseBoth}
 use Rattle.proof_steps.specs.declared.step.Line.{Line}
-use Rattle.proof_steps.specs.Parts.{Parted, parts_of}
+use Rattle.clause_parts.specs.Parts.{Parted, parts_of}
 use Rattle.proof_steps.specs.Steps.{numbered, resolvent, resolved, resolution, factored, states, from_one, from_two, side_of, assumed, closes, assumption_of, case_left, case_right, case_both, concluded, is_covered_rule}
 use Rattle.proof_steps.specs.Checked.{stated, side_clauses, assumption_clauses, premises, AreConclusions, IsContradiction, Stands, AllStand, Checked}
 use Rattle.proof_steps.proofs.Steps.{some_inj, take_get}

@@ -9,7 +9,7 @@ use Rattle.spl_truth.specs.Truth.{Follows}
 use Rattle.dep_sets.specs.declared.deps.Assumption.{Assumption}
 use Rattle.proof_steps.specs.declared.step.Statement.{Statement}
 use Rattle.proof_steps.specs.declared.step.Line.{Line}
-use Rattle.proof_steps.specs.Parts.{Parted, parts_of, as_true, as_false}
+use Rattle.clause_parts.specs.Parts.{Parted, parts_of, as_true, as_false}
 use Rattle.proof_steps.specs.Steps.{numbered, resolution, from_two, of_two, is_resolution_rule, is_covered_rule, conclude}
 
 abbrev pub stated : List Line → List Statement

@@ -1,6 +1,5 @@
+pub use Rattle.clause_parts.specs.Parts
 pub mod Spots
-pub mod Parts
-pub mod Marking
 pub mod Steps
 pub mod Parents
 pub mod Checked

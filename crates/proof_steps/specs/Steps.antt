@@ -23,7 +23,7 @@ use Rattle.proof_steps.specs.declared.step.Rule.{Rule}
 use Rattle.proof_steps.specs.declared.step.Rule.TheVariants.{Input, Resolve, Factor, Paramodulate, Reflex, EqFactor, Assume, CaseLeft, CaseRight, CaseBoth}
 use Rattle.proof_steps.specs.declared.step.Step.{Step}
 use Rattle.proof_steps.specs.Spots.{atom_at, term_under, with_term_at}
-use Rattle.proof_steps.specs.Parts.{Parted, parts_of, negated_atom}
+use Rattle.clause_parts.specs.Parts.{Parted, parts_of, negated_atom}
 
 -- ---- words
 

@@ -1,12 +1,12 @@
 ghost use Rattle.std.specs.Prelude.{◌≡◌, ◌&&◌, [], ◌∷◌, Some, None, option_map, option_and_then, IfOk};
 ghost use Rattle.std.specs.Option.{option_copied};
 ghost use Rattle.spl_terms.specs.Clauses.{in_order};
-ghost use Rattle.proof_steps.specs.Parts.{parts_of};
+ghost use Rattle.clause_parts.specs.Parts.{parts_of};
 ghost use Rattle.proof_steps.specs.Steps.{of_one, of_two, of_three, states, side_of, closes, assumed, assumption_of, case_left, case_right, case_both, within};
 
 use crate::ordering::ordered;
-use crate::splitting::{in_order, negation, part_of_side};
 use crate::step::Statement;
+use clause_parts::{in_order, negation, part_of_side};
 use dep_sets::{Assumption, Deps};
 use spl_terms::Clause;
 use spl_truth::is_ground;

@@ -219,8 +219,6 @@ const P: u32 = 1;
 
 const Q: u32 = 2;
 
-const R: u32 = 3;
-
 const S: u32 = 4;
 
 #[derive(Clone, Copy)]
@@ -294,28 +292,6 @@ fn clause_of(alloc: Global, written: Written<'_>) -> Result<Clause, AllocError> 
     })
 }
 
-/// Whether the clause has just these parts.
-fn has_parts(
-    alloc: Global,
-    written: Written<'_>,
-    left: Written<'_>,
-    right: Written<'_>,
-    left_ground: bool,
-) -> Result<bool, AllocError> {
-    match split_of(alloc, &clause_of(alloc, written)?)? {
-        Some(parts) => Ok(
-            same_clause(&parts.left, &clause_of(alloc, left)?)
-                && same_clause(&parts.right, &clause_of(alloc, right)?)
-                && parts.left_ground == left_ground,
-        ),
-        None => Ok(false),
-    }
-}
-
-fn has_none(alloc: Global, written: Written<'_>) -> Result<bool, AllocError> {
-    Ok(split_of(alloc, &clause_of(alloc, written)?)?.is_none())
-}
-
 /// A clause without constraint.
 fn rule<'a>(
     antecedent: &'a [(u32, &'a [Argument])],
@@ -338,80 +314,6 @@ fn sorted<'a>(
         antecedent: &[],
         succedent,
     }
-}
-
-#[test]
-fn clauses_are_split(rt: HostRuntime) -> Result<(), Fail> {
-    let alloc = rt.alloc();
-    let (x, y) = ([Var(0)], [Var(1)]);
-    assert!(rt;
-        has_parts(
-            alloc,
-            facts(&[(P, &x), (Q, &y)]),
-            facts(&[(P, &x)]),
-            facts(&[(Q, &x)]),
-            false
-        )?
-    );
-    assert!(rt; has_none(alloc, facts(&[(P, &x), (Q, &x)]))?);
-    Ok(())
-}
-
-#[test]
-fn ground_clauses_are_split(rt: HostRuntime) -> Result<(), Fail> {
-    let alloc = rt.alloc();
-    let (a, b) = ([Constant(0)], [Constant(1)]);
-    assert!(rt;
-        has_parts(
-            alloc,
-            facts(&[(P, &a), (Q, &b)]),
-            facts(&[(P, &a)]),
-            facts(&[(Q, &b)]),
-            true
-        )?
-    );
-    assert!(rt; has_none(alloc, rule(&[(R, &a)], &[(P, &b)]))?);
-    Ok(())
-}
-
-#[test]
-fn chains_of_atoms_stay_together(rt: HostRuntime) -> Result<(), Fail> {
-    let alloc = rt.alloc();
-    let (x, y, both) = ([Var(0)], [Var(1)], [Var(0), Var(1)]);
-    assert!(rt;
-        has_parts(
-            alloc,
-            Written {
-                constraint: &[(S, &x)],
-                antecedent: &[(R, &y)],
-                succedent: &[(P, &x), (Q, &y)],
-            },
-            sorted(&[(S, &x)], &[(P, &x)]),
-            rule(&[(R, &x)], &[(Q, &x)]),
-            false
-        )?
-    );
-    assert!(rt; has_none(alloc, rule(&[(R, &both)], &[(P, &x), (Q, &y)]))?);
-    Ok(())
-}
-
-#[test]
-fn a_later_component_comes_first(rt: HostRuntime) -> Result<(), Fail> {
-    let alloc = rt.alloc();
-    let (x, y) = ([Var(0)], [Var(1)]);
-    assert!(rt;
-        has_parts(
-            alloc,
-            rule(
-                &[(R, &x)],
-                &[(P, &[Var(1)]), (Q, &[Var(2)]), (R, &[Var(1)])]
-            ),
-            facts(&[(P, &x), (R, &x)]),
-            rule(&[(R, &x)], &[(Q, &y)]),
-            false
-        )?
-    );
-    Ok(())
 }
 
 fn depending(

@@ -2,7 +2,7 @@ use Rattle.std.proofs.Common.{◌≡◌, ◌∙◌, true, if◌then◌else◌, N
 use Rattle.std.specs.Prelude.{IfOk}
 use Rattle.spl_terms.specs.Clauses.{in_order}
 use Rattle.dep_sets.specs.Assumptions.{united, without_assumption}
-use Rattle.proof_steps.specs.Parts.{parts_of}
+use Rattle.clause_parts.specs.Parts.{parts_of}
 use Rattle.proof_steps.specs.Steps.{states, side_of, closes, within}
 use Rattle.proof_steps.proofs.CaseLemmas.{right_side}
 use Rattle.proof_steps.proofs.cases.close_left.Goals as goal

@@ -1,0 +1,4 @@
+pub mod Marks
+pub mod Closure
+pub mod Joint
+pub mod Examples

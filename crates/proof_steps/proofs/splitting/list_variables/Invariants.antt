@@ -1,6 +1,0 @@
-use Rattle.std.proofs.Common.{◌≡◌, ◌++◌, map, drop}
-use Rattle.spl_terms.specs.Clauses.{atom_variables}
-use Rattle.proof_steps.proofs.splitting.list_variables.Given as goal
-
-abbrev pub invariant-loop-atom : goal.invariant-loop-atom
-invariant-loop-atom l = l.lists ++ map atom_variables (drop l.atom-index l.atoms) ≡ l.initial.lists ++ map atom_variables l.atoms

@@ -1,5 +1,0 @@
-use Rattle.std.proofs.Common.{◌≡◌, ◌++◌, not, map, drop}
-use Rattle.proof_steps.proofs.splitting.others.Given as goal
-
-abbrev pub invariant-loop-mark : goal.invariant-loop-mark
-invariant-loop-mark l = l.made ++ map not (drop l.mark-index l.marks) ≡ map not l.marks
