@@ -60,6 +60,7 @@ fn push_close(out: &mut Vec<u8>, args: &[Term]) -> Result<(), AllocError>
     }
 }
 
+/// Appends a term: a variable as `?` and its number from 0, else the symbol's name with the arguments in parentheses.
 #[cycle(terms)]
 #[tactic(auto, using(crate::proofs::TextLemmas::term_laws))]
 pub fn push_term(
@@ -97,6 +98,7 @@ fn push_applied(
     push_close(out, args)
 }
 
+/// Appends an atom: the predicate's name with the arguments in parentheses, or `equal` with both sides.
 pub fn push_atom(
     alloc: Global,
     out: &mut Vec<u8>,
@@ -119,6 +121,7 @@ pub fn push_atom(
     }
 }
 
+/// Appends the word of a part of a clause.
 pub fn push_part(out: &mut Vec<u8>, part: Part) -> Result<(), AllocError>
     ensures { OnOk result (out.new.items ≡ out.old.items ++ part_text part) }
 {
@@ -137,6 +140,7 @@ pub fn push_direction(out: &mut Vec<u8>, right_to_left: bool) -> Result<(), Allo
     push_bytes(out, direction)
 }
 
+/// Appends the place of the negated atom, from 0, or `no` where a part is assumed.
 pub fn push_negated(
     alloc: Global,
     out: &mut Vec<u8>,
@@ -150,6 +154,7 @@ pub fn push_negated(
     }
 }
 
+/// Appends the word of a rule.
 pub fn push_rule(out: &mut Vec<u8>, rule: &Rule) -> Result<(), AllocError>
     ensures { OnOk result (out.new.items ≡ out.old.items ++ rule_text rule.now) }
 {

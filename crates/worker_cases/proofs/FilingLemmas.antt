@@ -1,6 +1,7 @@
 -- Entries that stay linked, and lines that stay filed.
 use Rattle.std.proofs.Common.{◌≡◌, ◌⊎◌, inl, inr, ℕ, zero, suc, ◌+◌, ◌-◌, ◌<◌, ◌≤◌, ◌==◌, Bool, true, false, if◌then◌else◌, List, [], ◌∷◌, ◌++◌, length, Option, Some, None, unwrap_or, refl, sym, ap, ◌∙◌, subst, arith, length-append}
-use Rattle.std.specs.Prelude.{nat_eq, MatchBool}
+use Rattle.std.specs.Prelude.{nat_eq, bit_and, MatchBool}
+use lib.Bits.{and_self}
 use Rattle.std.specs.List.{slice_get}
 use Rattle.std.proofs.lemmas.Bool.{eqb-true, eq-eqb, cases_lt}
 use Rattle.std.proofs.lemmas.Option.{slice_get_within}
@@ -13,7 +14,7 @@ use Rattle.proof_steps.specs.Steps.{numbered}
 use Rattle.worker_cases.specs.Covering.{Listing, IsNew, IsSubsumed, AddsLine}
 use Rattle.worker_cases.specs.declared.filing.Entry.{Entry}
 use Rattle.worker_cases.specs.declared.filing.Filing.{Filing}
-use Rattle.worker_cases.specs.Filing.{key, first_key, clause_key, before_arrow, after_arrow, HasKey, IsNewest, IsLinked, IsFiled, IsAdded, FilesOnly, FilesWanted, HasFiled, IsSubsumedByFiled, IsNoSubclause, HasNoSubclause, AreNoSubclauses}
+use Rattle.worker_cases.specs.Filing.{key, first_key, clause_key, clause_mask, is_within, before_arrow, after_arrow, HasKey, IsNewest, IsLinked, IsFiled, IsMasked, IsAdded, FilesOnly, FilesWanted, IsFiledLine, HasFiled, IsSubsumedByFiled, IsNoEntryOf, HasNoSubclause, AreNoSubclauses}
 use Rattle.worker_cases.proofs.Lists.{get_left, get_snoc}
 
 -- ---- entries by number
@@ -128,29 +129,46 @@ none_linked filing rule items = record {
 pub filed_left : (es : List Entry) (e : Entry) (key value : ℕ) → IsFiled es key value → IsFiled (es ++ e ∷ []) key value
 filed_left es e key value h = (h.0, h.1, numbered_left es e h.0 (numbered_within es h.0 h.1 h.2).1 ∙ h.2, h.3, h.4)
 
+-- what is filed stays so where the entries stay
+pub still_filed : (old new : List Entry) (key value : ℕ) → ((x : ℕ) (e : Entry) → numbered old x ≡ Some e → numbered new x ≡ Some e) → IsFiled old key value → IsFiled new key value
+still_filed old new key value keeps h = (h.0, h.1, keeps h.0 h.1 h.2, h.3, h.4)
+
+still_masked : (old new : List Entry) (key value mask : ℕ) → ((x : ℕ) (e : Entry) → numbered old x ≡ Some e → numbered new x ≡ Some e) → IsMasked old key value mask → IsMasked new key value mask
+still_masked old new key value mask keeps h = (h.0, h.1, keeps h.0 h.1 h.2, h.3, h.4, h.5)
+
+masked_filed : (entries : List Entry) (key value mask : ℕ) → IsMasked entries key value mask → IsFiled entries key value
+masked_filed entries key value mask h = (h.0, h.1, h.2, h.3, h.4)
+
 pub files_self : (es : List Entry) (value : ℕ) → FilesOnly es es value
-files_self es value = record { keeps = λ k v h. h; only = λ k v h. inl h }
+files_self es value = record { keeps = λ x e at. at; only = λ k v h. inl h }
 
 pub files_more : (a b c : List Entry) (value : ℕ) → FilesOnly a b value → FilesOnly b c value → FilesOnly a c value
 files_more a b c value f g = record {
-  keeps = λ k v h. g.keeps k v (f.keeps k v h);
+  keeps = λ x e at. g.keeps x e (f.keeps x e at);
   only = λ k v h. elim (g.only k v h) [ inl e ↦ f.only k v e | inr e ↦ inr e ];
 }
 
 files_snoc : (es : List Entry) (e : Entry) → FilesOnly es (es ++ e ∷ []) e.value
 files_snoc es e = record {
-  keeps = λ k v h. filed_left es e k v h;
+  keeps = λ x f at. numbered_left es e x (numbered_within es x f at).1 ∙ at;
   only = λ k v h. elim (numbered_snoc es e h.0 h.1 h.2) [
     | inl b ↦ inl (h.0, h.1, b.1, h.3, h.4)
     | inr a ↦ inr (sym h.4 ∙ ap (λ (f : Entry). f.value) (sym a.1))
   ];
 }
 
-pub files_added : (old new : List Entry) (key value : ℕ) → IsAdded old new key value → FilesOnly old new value
-files_added old new key value a = subst (λ es. FilesOnly old es value) (sym a.last) (files_snoc old (record { key = key; value = value; older = a.older }))
+pub files_added : (old new : List Entry) (key value mask : ℕ) → IsAdded old new key value mask → FilesOnly old new value
+files_added old new key value mask a = subst (λ es. FilesOnly old es value) (sym a.last) (files_snoc old (record { key = key; mask = mask; value = value; older = a.older }))
 
-pub filed_added : (old new : List Entry) (key value : ℕ) → IsAdded old new key value → IsFiled new key value
-filed_added old new key value a = subst (λ es. IsFiled es key value) (sym a.last) (length old + 1, _, numbered_last old (record { key = key; value = value; older = a.older }), refl, refl)
+pub masked_added : (old new : List Entry) (key value mask : ℕ) → IsAdded old new key value mask → IsMasked new key value mask
+masked_added old new key value mask a = subst (λ es. IsMasked es key value mask) (sym a.last) (length old + 1, _, numbered_last old (record { key = key; mask = mask; value = value; older = a.older }), refl, refl, refl)
+
+pub filed_added : (old new : List Entry) (key value mask : ℕ) → IsAdded old new key value mask → IsFiled new key value
+filed_added old new key value mask a = masked_filed new key value mask (masked_added old new key value mask a)
+
+-- the line of this clause was filed
+pub line_filed : (old new : List Entry) (key value mask : ℕ) (c : Clause) → IsAdded old new key value mask → key ≡ clause_key c → mask ≡ clause_mask c → IsFiledLine new c value
+line_filed old new key value mask c a key_is mask_is = subst (λ q. IsMasked new q value (clause_mask c)) key_is (subst (IsMasked new key value) mask_is (masked_added old new key value mask a))
 
 pub none_filed : (es : List Entry) (key value : ℕ) → es ≡ [] → IsFiled es key value → ⊥
 none_filed es key value e f = absurd (omega (arith, numbered_within es f.0 f.1 f.2, ap length e))
@@ -159,14 +177,14 @@ pub wanted : (b : Bool) (old new : List Entry) (value : ℕ) → b ≡ true → 
 wanted b old new value is f = record { keeps = f.keeps; only = λ k v h. elim (f.only k v h) [ inl before ↦ inl before | inr own ↦ inr (own, is) ] }
 
 pub unwanted : (b : Bool) (es : List Entry) (value : ℕ) → FilesWanted b es es value
-unwanted b es value = record { keeps = λ k v h. h; only = λ k v h. inl h }
+unwanted b es value = record { keeps = λ x e at. at; only = λ k v h. inl h }
 
 -- ---- filing one line after another
 
 -- those of these lines that are listed are filed, and nothing else
 pub record HasFiledOf (at : Listing) (among : ℕ → Type 0) (filing : Filing) : Type 0 where
   pub linked : IsLinked filing
-  pub filed : (n : ℕ) (l : Line) → among n → at.lists n ≡ true → numbered at.lines n ≡ Some l → IsFiled filing.entries.items (clause_key l.stated.clause) n
+  pub filed : (n : ℕ) (l : Line) → among n → at.lists n ≡ true → numbered at.lines n ≡ Some l → IsFiledLine filing.entries.items l.stated.clause n
   pub only : (key n : ℕ) → IsFiled filing.entries.items key n → at.lists n ≡ true
 
 pub filed_none : (at : Listing) (among : ℕ → Type 0) (filing : Filing) → IsLinked filing → filing.entries.items ≡ [] → ((n : ℕ) (l : Line) → among n → numbered at.lines n ≡ Some l → ⊥) → HasFiledOf at among filing
@@ -177,13 +195,13 @@ filed_none at among filing linked empty none = record {
 }
 
 pub filed_more : (at : Listing) (among more : ℕ → Type 0) (a b : Filing) (number : ℕ) → HasFiledOf at among a → IsLinked b → FilesWanted (at.lists number) a.entries.items b.entries.items number
-    → ((l : Line) → at.lists number ≡ true → numbered at.lines number ≡ Some l → IsFiled b.entries.items (clause_key l.stated.clause) number)
+    → ((l : Line) → at.lists number ≡ true → numbered at.lines number ≡ Some l → IsFiledLine b.entries.items l.stated.clause number)
     → ((n : ℕ) → more n → among n ⊎ (n ≡ number)) → HasFiledOf at more b
 filed_more at among more a b number h linked files own told = record {
   linked = linked;
   filed = λ n l one on is. elim (told n one) [
-    | inl before ↦ files.keeps (clause_key l.stated.clause) n (h.filed n l before on is)
-    | inr here ↦ subst (IsFiled b.entries.items (clause_key l.stated.clause)) (sym here) (own l (ap at.lists (sym here) ∙ on) (ap (numbered at.lines) (sym here) ∙ is))
+    | inl before ↦ still_masked a.entries.items b.entries.items (clause_key l.stated.clause) n (clause_mask l.stated.clause) files.keeps (h.filed n l before on is)
+    | inr here ↦ subst (IsFiledLine b.entries.items l.stated.clause) (sym here) (own l (ap at.lists (sym here) ∙ on) (ap (numbered at.lines) (sym here) ∙ is))
   ];
   only = λ q n f. elim (files.only q n f) [
     | inl before ↦ h.only q n before
@@ -198,20 +216,20 @@ pub line_added : (old new : Listing) (l : Line) → AddsLine old new l → lengt
 line_added old new l adds = ap length adds.lines ∙ length-append old.lines (l ∷ [])
 
 -- one more line was filed, as it was added to the ledger
-pub has_filed_more : (old new : Listing) (line : Line) (a b : Filing) (key value : ℕ) → AddsLine old new line → key ≡ clause_key line.stated.clause → value ≡ length new.lines → HasFiled old a → IsLinked b → IsAdded a.entries.items b.entries.items key value → HasFiled new b
-has_filed_more old new line a b key value adds k v h linked added =
+pub has_filed_more : (old new : Listing) (line : Line) (a b : Filing) (key value mask : ℕ) → AddsLine old new line → key ≡ clause_key line.stated.clause → mask ≡ clause_mask line.stated.clause → value ≡ length new.lines → HasFiled old a → IsLinked b → IsAdded a.entries.items b.entries.items key value mask → HasFiled new b
+has_filed_more old new line a b key value mask adds k m v h linked added =
     let long = line_added old new line adds in
-    let files = files_added a.entries.items b.entries.items key value added in
+    let files = files_added a.entries.items b.entries.items key value mask added in
     record {
       linked = linked;
       filed = λ n l on is. elim (numbered_snoc old.lines line n l (ap (λ ls. numbered ls n) (sym adds.lines) ∙ is)) [
         | inl before ↦ elim (adds.only n on) [
-          | inl listed ↦ files.keeps (clause_key l.stated.clause) n (h.filed n l listed before.1)
+          | inl listed ↦ still_masked a.entries.items b.entries.items (clause_key l.stated.clause) n (clause_mask l.stated.clause) files.keeps (h.filed n l listed before.1)
           | inr last ↦ absurd (omega (arith, before.0, last, long))
         ]
         | inr here ↦
             let n_is : value ≡ n = omega (arith, v, long, here.0) in
-            subst (IsFiled b.entries.items (clause_key l.stated.clause)) n_is (subst (λ q. IsFiled b.entries.items q value) (k ∙ ap (λ (x : Line). clause_key x.stated.clause) here.1) (filed_added a.entries.items b.entries.items key value added))
+            subst (IsFiledLine b.entries.items l.stated.clause) n_is (line_filed a.entries.items b.entries.items key value mask l.stated.clause added (k ∙ ap (λ (x : Line). clause_key x.stated.clause) here.1) (m ∙ ap (λ (x : Line). clause_mask x.stated.clause) here.1))
       ];
       only = λ q n f. elim (files.only q n f) [
         | inl before ↦ adds.keeps n (h.only q n before)
@@ -236,7 +254,7 @@ under_way_from ls filing key number c l is =
       none = λ y e less at same. absurd (w.last y less (numbered_within filing.entries.items y e at).1 (e, at, same));
     }
 
-pub under_way_more : (ls : List Line) (filing : Filing) (key number : ℕ) (e : Entry) (c : Clause) → IsLinked filing → numbered filing.entries.items number ≡ Some e → IsNoSubclause ls e.value c → IsUnderWay ls filing.entries.items key c number → IsUnderWay ls filing.entries.items key c e.older
+pub under_way_more : (ls : List Line) (filing : Filing) (key number : ℕ) (e : Entry) (c : Clause) → IsLinked filing → numbered filing.entries.items number ≡ Some e → IsNoEntryOf ls e c → IsUnderWay ls filing.entries.items key c number → IsUnderWay ls filing.entries.items key c e.older
 under_way_more ls filing key number e c l at not_here u =
     let p = numbered_within filing.entries.items number e at in
     let k = u.own p.0 in
@@ -253,7 +271,7 @@ under_way_more ls filing key number e c l at not_here u =
           | inr here ↦
               let eq : y ≡ number = omega (arith, before, here) in
               let f_is : f ≡ e = (let s : Some f ≡ Some e = sym is ∙ ap (numbered filing.entries.items) eq ∙ at in cc) in
-              subst (λ (f : Entry). IsNoSubclause ls f.value c) (sym f_is) not_here
+              subst (λ (f : Entry). IsNoEntryOf ls f c) (sym f_is) not_here
         ]
       ];
     }
@@ -286,11 +304,15 @@ at_first P [] (x ∷ a) c zero_is one two three = two 0 x refl
 at_first P [] [] (x ∷ c) zero_is one two three = three 0 x refl
 at_first P [] [] [] zero_is one two three = zero_is
 
+within_self : (mask other : ℕ) → mask ≡ other → is_within mask other ≡ true
+within_self mask other same = eq-eqb (bit_and mask other) mask (ap (bit_and mask) (sym same) ∙ and_self mask)
+
 none_stated : (ls : Listing) (filing : Filing) (c : Clause) → HasFiled ls filing → AreNoSubclauses ls.lines filing.entries.items c → IsNew ls c
 none_stated ls filing c h none n l on is same =
     let at_key : HasNoSubclause ls.lines filing.entries.items (clause_key c) 0 c = at_first (λ k. HasNoSubclause ls.lines filing.entries.items k 0 c) c.succedent c.antecedent c.constraint none.empty none.succedent none.antecedent none.constraint in
     let f = h.filed n l on is in
-    let not_in = at_key f.0 f.1 (numbered_within filing.entries.items f.0 f.1 f.2).0 f.2 (f.3 ∙ ap clause_key same) l (ap (numbered ls.lines) f.4 ∙ is) in
+    let own : is_within f.1.mask (clause_mask c) ≡ true = within_self f.1.mask (clause_mask c) (f.5 ∙ ap clause_mask same) in
+    let not_in = at_key f.0 f.1 (numbered_within filing.entries.items f.0 f.1 f.2).0 f.2 (f.3 ∙ ap clause_key same) own l (ap (numbered ls.lines) f.4 ∙ is) in
     let within = equal_subclause l.stated.clause c same in
     (let x : true ≡ false = sym within ∙ not_in in cc)
 

@@ -13,7 +13,7 @@ use Rattle.worker_cases.specs.declared.filing.Filing.{Filing}
 use Rattle.worker_cases.specs.Partners.{is_in}
 use Rattle.worker_cases.specs.Filing.{key, before_arrow, after_arrow, HasKey, IsNewest, IsLinked, IsFiled, IsAdded, FilesOnly}
 use Rattle.worker_cases.specs.Partners.{HasAtoms, HasClause, HasValues, HasValuesOf, HasPartners, AreFiledValues, AddsValues}
-use Rattle.worker_cases.proofs.FilingLemmas.{files_self, files_more, files_added, filed_added, numbered_within, numbered_there}
+use Rattle.worker_cases.proofs.FilingLemmas.{still_filed, files_self, files_more, files_added, filed_added, numbered_within, numbered_there}
 use Rattle.worker_cases.proofs.Lists.{member_last, member_more, member_cases}
 
 -- ---- filing
@@ -27,23 +27,23 @@ pub record IsFilingAtoms (old new : Filing) (side : ℕ) (atoms : List Atom) (va
 pub filing_starts : (old : Filing) (side : ℕ) (atoms : List Atom) (value : ℕ) → IsLinked old → IsFilingAtoms old old side atoms value 0
 filing_starts old side atoms value l = record { linked = l; only = files_self old.entries.items value; filed = λ k a h e. absurd (omega (arith, h)) }
 
-pub filing_more : (old a b : Filing) (side : ℕ) (atoms : List Atom) (value i q : ℕ) (x : Atom) → IsFilingAtoms old a side atoms value i → IsLinked b → IsAdded a.entries.items b.entries.items q value → q ≡ key side x → slice_get atoms i ≡ Some x → IsFilingAtoms old b side atoms value (i + 1)
-filing_more old a b side atoms value i q x f l added is here =
-    let files = files_added a.entries.items b.entries.items q value added in
+pub filing_more : (old a b : Filing) (side : ℕ) (atoms : List Atom) (value i q mask : ℕ) (x : Atom) → IsFilingAtoms old a side atoms value i → IsLinked b → IsAdded a.entries.items b.entries.items q value mask → q ≡ key side x → slice_get atoms i ≡ Some x → IsFilingAtoms old b side atoms value (i + 1)
+filing_more old a b side atoms value i q mask x f l added is here =
+    let files = files_added a.entries.items b.entries.items q value mask added in
     record {
       linked = l;
       only = files_more old.entries.items a.entries.items b.entries.items value f.only files;
       filed = λ k y less at. elim (cases_lt k i) [
-        | inl earlier ↦ files.keeps (key side y) value (f.filed k y earlier at)
+        | inl earlier ↦ still_filed a.entries.items b.entries.items (key side y) value files.keeps (f.filed k y earlier at)
         | inr late ↦
             let eq : i ≡ k = omega (arith, less, late) in
             let y_is : x ≡ y = (let s : Some x ≡ Some y = sym here ∙ ap (slice_get atoms) eq ∙ at in cc) in
-            subst (λ k. IsFiled b.entries.items k value) (is ∙ ap (key side) y_is) (filed_added a.entries.items b.entries.items q value added)
+            subst (λ k. IsFiled b.entries.items k value) (is ∙ ap (key side) y_is) (filed_added a.entries.items b.entries.items q value mask added)
       ];
     }
 
 pub atoms_kept : (old new : List Entry) (side : ℕ) (atoms : List Atom) (value n : ℕ) → FilesOnly old new value → HasAtoms old side atoms n → HasAtoms new side atoms n
-atoms_kept old new side atoms value n f h = λ k a e. f.keeps (key side a) n (h k a e)
+atoms_kept old new side atoms value n f h = λ k a e. still_filed old new (key side a) n f.keeps (h k a e)
 
 pub three_parts : (entries : List Entry) (c : Clause) (n : ℕ) → HasAtoms entries before_arrow c.constraint n → HasAtoms entries before_arrow c.antecedent n → HasAtoms entries after_arrow c.succedent n → HasClause entries c n
 three_parts entries c n f g h Constraint = f

@@ -19,7 +19,7 @@ use Rattle.worker_cases.specs.Partners.{is_in}
 use Rattle.worker_cases.specs.Covering.{Listing, IsNumber, IsCoveredPair}
 use Rattle.worker_cases.specs.Filing.{key, before_arrow, after_arrow, IsFiled, IsLinked, FilesWanted}
 use Rattle.worker_cases.specs.Partners.{side, other_side, HasClause, HasLiterals, HasPartners}
-use Rattle.worker_cases.proofs.FilingLemmas.{none_filed}
+use Rattle.worker_cases.proofs.FilingLemmas.{none_filed, still_filed}
 use Rattle.worker_cases.proofs.CoverLemmas.{get_map, places_of}
 
 -- ---- atoms that are the same have one key
@@ -123,7 +123,7 @@ pub literals_more : (lines : List Line) (given now : ℕ → Type 0) (number : �
 literals_more lines given now number b old new h linked files own to here back = record {
   linked = linked;
   atoms = λ n l one is. elim (back n one) [
-    | inl before ↦ (λ part i c at. files.keeps (key (side part) c) n (h.atoms n l before is part i c at))
+    | inl before ↦ (λ part i c at. still_filed old.entries.items new.entries.items (key (side part) c) n files.keeps (h.atoms n l before is part i c at))
     | inr last ↦ subst (HasClause new.entries.items l.stated.clause) (sym last.0) (own l last.1 (ap (numbered lines) (sym last.0) ∙ is))
   ];
   only = λ q n f. elim (files.only q n f) [

@@ -1,5 +1,5 @@
 -- Numbers filed under keys, and lines filed under one of their atoms.
-use Rattle.std.specs.Prelude.{◌≡◌, ◌⊎◌, ℕ, Bool, ◌+◌, ◌*◌, ◌-◌, ◌<◌, ◌≤◌, ◌%◌, ◌^◌, true, false, List, [], ◌∷◌, ◌++◌, fold, length, map, Some, slice_get, unwrap_or, nat_eq}
+use Rattle.std.specs.Prelude.{◌≡◌, ◌⊎◌, ℕ, Bool, ◌+◌, ◌*◌, ◌-◌, ◌<◌, ◌≤◌, ◌%◌, ◌^◌, ◌==◌, true, false, List, [], ◌∷◌, ◌++◌, fold, length, map, Some, slice_get, unwrap_or, nat_eq, bit_and, bit_or}
 use Rattle.indexmap.specs.IndexMap.{get}
 use Rattle.spl_terms.specs.declared.term.Term.{Term, Term-F, fold-Term}
 use Rattle.spl_terms.specs.declared.term.Term.TheOpen as layer
@@ -49,6 +49,24 @@ first_key [] [] [] = 0
 abbrev pub clause_key : Clause → ℕ
 clause_key c = first_key c.succedent c.antecedent c.constraint
 
+-- ---- masks of clauses
+
+-- one bit out of 64
+abbrev pub bit_of : ℕ → ℕ
+bit_of key = 2 ^ (key % 64)
+
+-- the bits of the keys of the atoms, added to a mask
+abbrev pub with_bits : ℕ → ℕ → List Atom → ℕ
+with_bits mask side atoms = fold bit_or mask (map (λ a. bit_of (key side a)) atoms)
+
+-- the bits of the keys of all atoms of a clause; those of a subclause are among them
+abbrev pub clause_mask : Clause → ℕ
+clause_mask c = with_bits (with_bits (with_bits 0 before_arrow c.constraint) before_arrow c.antecedent) after_arrow c.succedent
+
+-- each bit of the first mask is one of the other
+abbrev pub is_within : ℕ → ℕ → Bool
+is_within mask other = bit_and mask other == mask
+
 -- ---- entries
 
 -- the entry with this number, from 1, has the key
@@ -70,25 +88,33 @@ pub record IsLinked (filing : Filing) : Type 0 where
 abbrev pub IsFiled : List Entry → ℕ → ℕ → Type 0
 IsFiled entries key value = (x : ℕ) × (e : Entry) × (numbered entries x ≡ Some e) × (e.key ≡ key) × (e.value ≡ value)
 
--- the value was filed under the key, last of all
-pub record IsAdded (old new : List Entry) (key value : ℕ) : Type 0 where
-  pub older : ℕ
-  pub last : new ≡ old ++ record { key = key; value = value; older = older } ∷ []
+-- with this mask
+abbrev pub IsMasked : List Entry → ℕ → ℕ → ℕ → Type 0
+IsMasked entries key value mask = (x : ℕ) × (e : Entry) × (numbered entries x ≡ Some e) × (e.key ≡ key) × (e.value ≡ value) × (e.mask ≡ mask)
 
--- what was filed still is, and nothing new but the value
+-- the value was filed under the key with this mask, last of all
+pub record IsAdded (old new : List Entry) (key value mask : ℕ) : Type 0 where
+  pub older : ℕ
+  pub last : new ≡ old ++ record { key = key; value = value; mask = mask; older = older } ∷ []
+
+-- the entries stay, and nothing new is filed but the value
 pub record FilesOnly (old new : List Entry) (value : ℕ) : Type 0 where
-  pub keeps : (key v : ℕ) → IsFiled old key v → IsFiled new key v
+  pub keeps : (x : ℕ) (e : Entry) → numbered old x ≡ Some e → numbered new x ≡ Some e
   pub only : (key v : ℕ) → IsFiled new key v → IsFiled old key v ⊎ (v ≡ value)
 
 -- and that only where it is wanted
 pub record FilesWanted (wanted : Bool) (old new : List Entry) (value : ℕ) : Type 0 where
-  pub keeps : (key v : ℕ) → IsFiled old key v → IsFiled new key v
+  pub keeps : (x : ℕ) (e : Entry) → numbered old x ≡ Some e → numbered new x ≡ Some e
   pub only : (key v : ℕ) → IsFiled new key v → IsFiled old key v ⊎ ((v ≡ value) × (wanted ≡ true))
+
+-- the number of the line of this clause is filed under the clause's key, with its mask
+abbrev pub IsFiledLine : List Entry → Clause → ℕ → Type 0
+IsFiledLine entries c n = IsMasked entries (clause_key c) n (clause_mask c)
 
 -- each listed line is filed under the key of its clause, and nothing else is filed
 pub record HasFiled (at : Listing) (filing : Filing) : Type 0 where
   pub linked : IsLinked filing
-  pub filed : (n : ℕ) (l : Line) → at.lists n ≡ true → numbered at.lines n ≡ Some l → IsFiled filing.entries.items (clause_key l.stated.clause) n
+  pub filed : (n : ℕ) (l : Line) → at.lists n ≡ true → numbered at.lines n ≡ Some l → IsFiledLine filing.entries.items l.stated.clause n
   pub only : (key n : ℕ) → IsFiled filing.entries.items key n → at.lists n ≡ true
 
 -- ---- lines that subsume a clause
@@ -110,15 +136,19 @@ pub record IsSubsumedByFiled (lines : List Line) (entries : List Entry) (c : Cla
 abbrev pub IsNoSubclause : List Line → ℕ → Clause → Type 0
 IsNoSubclause lines n c = (l : Line) → numbered lines n ≡ Some l → is_subclause l.stated.clause c ≡ false
 
--- of the lines that are filed under the key in the entries after x, none is a subclause of c
-abbrev pub HasNoSubclause : List Line → List Entry → ℕ → ℕ → Clause → Type 0
-HasNoSubclause lines entries key x c = (y : ℕ) (e : Entry) → x < y → numbered entries y ≡ Some e → e.key ≡ key → IsNoSubclause lines e.value c
+-- the line of the entry is no subclause of c, or its mask tells so
+abbrev pub IsNoEntryOf : List Line → Entry → Clause → Type 0
+IsNoEntryOf lines e c = is_within e.mask (clause_mask c) ≡ true → IsNoSubclause lines e.value c
 
--- no line that is filed under the key of one of the atoms is a subclause of c
+-- this holds of the lines that are filed under the key in the entries after x
+abbrev pub HasNoSubclause : List Line → List Entry → ℕ → ℕ → Clause → Type 0
+HasNoSubclause lines entries key x c = (y : ℕ) (e : Entry) → x < y → numbered entries y ≡ Some e → e.key ≡ key → IsNoEntryOf lines e c
+
+-- and of those that are filed under the key of one of the atoms
 abbrev pub HaveNoSubclause : List Line → List Entry → ℕ → List Atom → Clause → Type 0
 HaveNoSubclause lines entries side atoms c = (k : ℕ) (a : Atom) → slice_get atoms k ≡ Some a → HasNoSubclause lines entries (key side a) 0 c
 
--- no line that is filed under the key of one of its atoms, or as the empty clause, is a subclause of c
+-- and of those that are filed under the key of one of its atoms, or as the empty clause
 pub record AreNoSubclauses (lines : List Line) (entries : List Entry) (c : Clause) : Type 0 where
   pub empty : HasNoSubclause lines entries 0 0 c
   pub succedent : HaveNoSubclause lines entries after_arrow c.succedent c

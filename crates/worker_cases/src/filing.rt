@@ -2,7 +2,7 @@ ghost use Rattle.std.specs.Prelude.{◌≡◌, ℕ, [], fold, map, unwrap_or, na
 ghost use Rattle.indexmap.specs.IndexMap.{get};
 ghost use Rattle.split_tree.specs.Journal.{ledger};
 ghost use Rattle.worker_cases.specs.Covering.{IsSubsumed, IsNew};
-ghost use Rattle.worker_cases.specs.Filing.{mixed, term_hash, key, clause_key, IsLinked, IsAdded, HasFiled, SubsumesBy, IsSubsumedByFiled, IsNoSubclause, HasNoSubclause, HaveNoSubclause, AreNoSubclauses};
+ghost use Rattle.worker_cases.specs.Filing.{mixed, term_hash, key, clause_key, bit_of, with_bits, clause_mask, is_within, IsLinked, IsAdded, HasFiled, SubsumesBy, IsSubsumedByFiled, IsNoEntryOf, HasNoSubclause, HaveNoSubclause, AreNoSubclauses};
 ghost use Rattle.worker_cases.specs.Working.{listing};
 
 use crate::ledger::line_at;
@@ -76,6 +76,41 @@ pub fn clause_key(clause: &Clause) -> u64
     }
 }
 
+// ---- masks of clauses
+
+fn bit_of(key: u64) -> u64
+    ensures { result ≡ bit_of key }
+{
+    1 << (key % 64)
+}
+
+/// The mask with the bits of the keys of the atoms added.
+fn with_bits(mask: u64, side: u64, atoms: &[Atom]) -> u64
+    ensures { result ≡ with_bits mask side atoms.now }
+{
+    let mut mask = mask;
+    for atom in atoms {
+        mask |= bit_of(key(side, atom));
+    }
+    mask
+}
+
+/// The bits of the keys of the clause's atoms. Those of a subclause are among them, so most clauses that are none are told
+/// by their masks.
+pub fn clause_mask(clause: &Clause) -> u64
+    ensures { result ≡ clause_mask clause.now }
+{
+    let constraint = with_bits(0, BEFORE_ARROW, clause.constraint.as_slice());
+    let before = with_bits(constraint, BEFORE_ARROW, clause.antecedent.as_slice());
+    with_bits(before, AFTER_ARROW, clause.succedent.as_slice())
+}
+
+fn is_within(mask: u64, other: u64) -> bool
+    ensures { result ≡ is_within mask other }
+{
+    mask & other == mask
+}
+
 // ---- entries
 
 /// A value that was filed.
@@ -83,6 +118,8 @@ pub fn clause_key(clause: &Clause) -> u64
 pub struct Entry {
     /// The key under which it was filed.
     pub key: u64,
+    /// The mask of the clause that was filed; 0 where none is asked for.
+    pub mask: u64,
     /// What was filed.
     pub value: u32,
     /// The number of the entry of this key before this one, from 1; 0 where there is none.
@@ -126,11 +163,11 @@ impl Filing {
         self.newest.get(&key).copied().unwrap_or(0)
     }
 
-    /// Files the value under the key. There is no memory for more than 4,294,967,295 entries.
-    pub fn file(&mut self, key: u64, value: u32) -> Result<(), AllocError>
+    /// Files the value under the key with the mask. There is no memory for more than 4,294,967,295 entries.
+    pub fn file(&mut self, key: u64, value: u32, mask: u64) -> Result<(), AllocError>
         requires linked { IsLinked self.old }
         ensures linked { IsLinked self.new }
-        ensures added { OnOk result (IsAdded self.old.entries.items self.new.entries.items key value) }
+        ensures added { OnOk result (IsAdded self.old.entries.items self.new.entries.items key value mask) }
         ensures same { OnErr result (self.new.entries.items ≡ self.old.entries.items) }
     {
         if self.entries.len() >= 4_294_967_295 {
@@ -139,31 +176,41 @@ impl Filing {
         self.entries.reserve(1)?;
         let number = self.entries.len() as u32 + 1;
         let older = self.newest.insert(key, number)?.unwrap_or(0);
-        self.entries.push_reserved(Entry { key, value, older });
+        self.entries.push_reserved(Entry {
+            key,
+            mask,
+            value,
+            older,
+        });
         Ok(())
     }
 }
 
 // ---- lines that subsume a clause
 
-/// Whether the line with this number, from 1, is a subclause of the clause.
-fn is_line_in(table: &Table, number: u32, clause: &Clause) -> bool
-    ensures { MatchBool result (SubsumesBy (ledger table.now.setting table.now.past) number clause.now) (IsNoSubclause (ledger table.now.setting table.now.past) number clause.now) }
+/// Whether the line of the entry is a subclause of the clause, of which this is the mask.
+fn is_line_in(table: &Table, entry: &Entry, clause: &Clause, mask: u64) -> bool
+    requires { mask ≡ clause_mask clause.now }
+    ensures { MatchBool result (SubsumesBy (ledger table.now.setting table.now.past) entry.now.value clause.now) (IsNoEntryOf (ledger table.now.setting table.now.past) entry.now clause.now) }
 {
-    match line_at(table, number) {
+    if !is_within(entry.mask, mask) {
+        return false;
+    }
+    match line_at(table, entry.value) {
         Some(line) => is_subclause(&line.stated.clause, clause),
         None => false,
     }
 }
 
-/// Whether a line that is filed under the key is a subclause of the clause.
-fn is_subsumed_at(table: &Table, filing: &Filing, key: u64, clause: &Clause) -> bool
+/// Whether a line that is filed under the key is a subclause of the clause, of which this is the mask.
+fn is_subsumed_at(table: &Table, filing: &Filing, key: u64, clause: &Clause, mask: u64) -> bool
     requires linked { IsLinked filing.now }
+    requires mask { mask ≡ clause_mask clause.now }
     ensures { MatchBool result (IsSubsumedByFiled (ledger table.now.setting table.now.past) filing.now.entries.items clause.now) (HasNoSubclause (ledger table.now.setting table.now.past) filing.now.entries.items key 0 clause.now) }
 {
     let mut number = filing.newest(key);
     while let Some(entry) = numbered(filing.entries.as_slice(), number) {
-        if is_line_in(table, entry.value, clause) {
+        if is_line_in(table, entry, clause, mask) {
             return true;
         }
         number = entry.older;
@@ -171,19 +218,22 @@ fn is_subsumed_at(table: &Table, filing: &Filing, key: u64, clause: &Clause) -> 
     false
 }
 
-/// Whether a line that is filed under the key of one of the atoms is a subclause of the clause.
+/// Whether a line that is filed under the key of one of the atoms is a subclause of the clause, of which this is the
+/// mask.
 fn is_subsumed_by(
     table: &Table,
     filing: &Filing,
     side: u64,
     atoms: &[Atom],
     clause: &Clause,
+    mask: u64,
 ) -> bool
     requires linked { IsLinked filing.now }
+    requires mask { mask ≡ clause_mask clause.now }
     ensures { MatchBool result (IsSubsumedByFiled (ledger table.now.setting table.now.past) filing.now.entries.items clause.now) (HaveNoSubclause (ledger table.now.setting table.now.past) filing.now.entries.items side atoms.now clause.now) }
 {
     for atom in atoms {
-        if is_subsumed_at(table, filing, key(side, atom), clause) {
+        if is_subsumed_at(table, filing, key(side, atom), clause, mask) {
             return true;
         }
     }
@@ -191,31 +241,33 @@ fn is_subsumed_by(
 }
 
 /// Whether a line that is filed under the key of one of the clause's atoms, or as the empty clause, is a subclause of
-/// the clause.
-fn has_subclause(table: &Table, filing: &Filing, clause: &Clause) -> bool
+/// the clause, of which this is the mask.
+fn has_subclause(table: &Table, filing: &Filing, clause: &Clause, mask: u64) -> bool
     requires linked { IsLinked filing.now }
+    requires mask { mask ≡ clause_mask clause.now }
     ensures { MatchBool result (IsSubsumedByFiled (ledger table.now.setting table.now.past) filing.now.entries.items clause.now) (AreNoSubclauses (ledger table.now.setting table.now.past) filing.now.entries.items clause.now) }
 {
-    if is_subsumed_at(table, filing, 0, clause) {
+    if is_subsumed_at(table, filing, 0, clause, mask) {
         return true;
     }
     let succedent = clause.succedent.as_slice();
-    if is_subsumed_by(table, filing, AFTER_ARROW, succedent, clause) {
+    if is_subsumed_by(table, filing, AFTER_ARROW, succedent, clause, mask) {
         return true;
     }
     let antecedent = clause.antecedent.as_slice();
-    if is_subsumed_by(table, filing, BEFORE_ARROW, antecedent, clause) {
+    if is_subsumed_by(table, filing, BEFORE_ARROW, antecedent, clause, mask) {
         return true;
     }
     let constraint = clause.constraint.as_slice();
-    is_subsumed_by(table, filing, BEFORE_ARROW, constraint, clause)
+    is_subsumed_by(table, filing, BEFORE_ARROW, constraint, clause, mask)
 }
 
-/// Whether a filed line is a subclause of the clause; where none is, no filed line states it. The lines that are listed
-/// at the node are those that are filed.
-pub fn is_subsumed(table: &Table, filing: &Filing, clause: &Clause) -> bool
+/// Whether a filed line is a subclause of the clause, of which this is the mask; where none is, no filed line states the
+/// clause. The lines that are listed at the node are those that are filed.
+pub fn is_subsumed(table: &Table, filing: &Filing, clause: &Clause, mask: u64) -> bool
     requires linked { IsLinked filing.now }
+    requires mask { mask ≡ clause_mask clause.now }
     ensures { (m : ℕ) → HasFiled (listing table.now.setting table.now.past m) filing.now → MatchBool result (IsSubsumed (listing table.now.setting table.now.past m) clause.now) (IsNew (listing table.now.setting table.now.past m) clause.now) }
 {
-    has_subclause(table, filing, clause)
+    has_subclause(table, filing, clause, mask)
 }

@@ -4,11 +4,11 @@ ghost use Rattle.proof_steps.specs.Steps.{numbered};
 ghost use Rattle.split_tree.specs.Journal.{ledger, nodes, steps};
 ghost use Rattle.split_tree.specs.Paths.{on_path};
 ghost use Rattle.split_tree.specs.Facts.{listed, IsLive};
-ghost use Rattle.worker_cases.specs.Filing.{clause_key, HasFiled, IsFiled, IsLinked, FilesWanted};
+ghost use Rattle.worker_cases.specs.Filing.{HasFiled, IsFiledLine, IsLinked, FilesWanted};
 ghost use Rattle.worker_cases.specs.Partners.{HasClause, HasLiterals};
 ghost use Rattle.worker_cases.specs.Working.{listing, IsLiveLine, HasLines, AddsWanted, HasActivations, IsGiven, IsIndex, IsWhole, nothing_else};
 
-use crate::filing::{Filing, clause_key};
+use crate::filing::{Filing, clause_key, clause_mask};
 use crate::partners::file_clause;
 use case_queue::CaseQueue;
 use split_tree::Table;
@@ -148,11 +148,11 @@ fn file_line(table: &Table, node: u32, clauses: &mut Filing, number: u32) -> Res
     requires linked { IsLinked clauses.old }
     ensures linked { IsLinked clauses.new }
     ensures wanted { OnOk result (FilesWanted (listed table.now.setting table.now.past node number) clauses.old.entries.items clauses.new.entries.items number) }
-    ensures own { OnOk result ((l : Line) → listed table.now.setting table.now.past node number ≡ true → numbered (ledger table.now.setting table.now.past) number ≡ Some l → IsFiled clauses.new.entries.items (clause_key l.stated.clause) number) }
+    ensures own { OnOk result ((l : Line) → listed table.now.setting table.now.past node number ≡ true → numbered (ledger table.now.setting table.now.past) number ≡ Some l → IsFiledLine clauses.new.entries.items l.stated.clause number) }
 {
     if table.listed(node, number) {
-        let key = clause_key(&table.line(number).stated.clause);
-        clauses.file(key, number)?;
+        let stated = &table.line(number).stated.clause;
+        clauses.file(clause_key(stated), number, clause_mask(stated))?;
     }
     Ok(())
 }

@@ -20,7 +20,7 @@ fn file_atoms(
     ensures atoms { OnOk result (HasAtoms literals.new.entries.items side atoms.now number) }
 {
     for atom in atoms {
-        literals.file(key(side, atom), number)?;
+        literals.file(key(side, atom), number, 0)?;
     }
     Ok(())
 }

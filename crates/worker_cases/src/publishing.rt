@@ -7,7 +7,7 @@ ghost use Rattle.worker_cases.specs.declared.halt.Halt.TheVariants.{Closed};
 ghost use Rattle.worker_cases.specs.Covering.{IsCovered, AddsLine};
 ghost use Rattle.worker_cases.specs.Working.{listing, IsBusy, IsMate, IsNewLine, IsWhole, pending, KeepsWork, IsStep, IsHalted, IsLeft};
 
-use crate::filing::{clause_key, is_subsumed};
+use crate::filing::{clause_key, clause_mask, is_subsumed};
 use crate::halt::Halt;
 use crate::index::Index;
 use backjump::close;
@@ -200,7 +200,8 @@ pub fn publish_conclusion(
     if is_tautology(&conclusion.clause) {
         return Ok(());
     }
-    if is_subsumed(table, &index.clauses, &conclusion.clause) {
+    let mask = clause_mask(&conclusion.clause);
+    if is_subsumed(table, &index.clauses, &conclusion.clause, mask) {
         return Ok(());
     }
     let key = clause_key(&conclusion.clause);
@@ -211,7 +212,7 @@ pub fn publish_conclusion(
     };
     publish(alloc, table, node, index, clause, line)?;
     let number = table.steps();
-    index.clauses.file(key, number)?;
+    index.clauses.file(key, number, mask)?;
     index.queue.add(table, node, number)?;
     Ok(())
 }

@@ -15,10 +15,10 @@ returns-clause-index c =
     let new = c.publish.new.table in
     let p = c.in_ok-publish.ensures in
     let index = c.args.index.now in
-    let added = subst (λ n. IsAdded index.clauses.entries.items c.file.new.self.entries.items c.clause_key-key.result n) c.steps-number.ensures c.in_ok-file.ensures.added in
+    let added = subst (λ n. IsAdded index.clauses.entries.items c.file.new.self.entries.items c.clause_key-key.result n c.clause_mask-mask.result) c.steps-number.ensures c.in_ok-file.ensures.added in
     let w = c.requires.busy.working in
     whole_keeps old.setting new.setting old.past new.past c.args.node index c.file.new.self c.add.new.self (pending c.args.node c.args.clause) p.step.setting p.work w.there w.holds.live
-    (has_filed_more (listing old.setting old.past c.args.node) (listing new.setting new.past c.args.node) _ index.clauses c.file.new.self c.clause_key-key.result (steps new.setting new.past) p.adds c.clause_key-key.ensures (omega arith) c.requires.index.lines c.file.ensures.linked added)
+    (has_filed_more (listing old.setting old.past c.args.node) (listing new.setting new.past c.args.node) _ index.clauses c.file.new.self c.clause_key-key.result (steps new.setting new.past) c.clause_mask-mask.result p.adds c.clause_key-key.ensures c.clause_mask-mask.ensures (omega arith) c.requires.index.lines c.file.ensures.linked added)
     (subst (λ n. HasFirst new.setting new.past c.args.node n c.add.new.self) c.steps-number.ensures c.in_ok-add.ensures.first)
     c.requires.index
 
