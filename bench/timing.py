@@ -18,7 +18,7 @@ def built_program(name="spass"):
 
 
 def measure(command, text, seconds):
-    """The first line that the command prints for the text, its seconds and its megabytes; none where it is cut off."""
+    """What the command prints for the text, and the seconds it took; none where it is cut off."""
     with tempfile.NamedTemporaryFile("w+", suffix=".txt") as given:
         given.write(text)
         given.flush()
