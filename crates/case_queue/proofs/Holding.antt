@@ -1,5 +1,7 @@
 -- What a queue holds as clauses are added and dropped.
-use Rattle.std.proofs.Common.{◌≡◌, ◌∙◌, ℕ, zero, suc, ◌-◌, ◌<◌, ◌≤◌, ◌⊎◌, inl, inr, true, false, List, [], ◌∷◌, map, Some, All, Contains, IsPermutation, heap_items, heap_len, Option, None, IfSome, IfNone, slice_index_or, sym, ap, subst, arith, Global}
+use Rattle.std.proofs.Common.{◌≡◌, ◌∙◌, ℕ, zero, suc, ◌+◌, ◌-◌, ◌<◌, ◌≤◌, ◌⊎◌, inl, inr, Bool, true, false, List, [], ◌∷◌, length, map, Some, All, Contains, IsPermutation, heap_items, heap_len, Option, None, IfSome, IfNone, slice_index_or, refl, sym, ap, subst, arith, Global}
+use Rattle.std.specs.List.{slice_get}
+use Rattle.std.proofs.lemmas.Option.{slice_get_within}
 use Rattle.std.specs.BinaryHeap.{IsHeap, PopsGreatest}
 use Rattle.std.specs.declared.collections.binary_heap.BinaryHeap.{BinaryHeap}
 use Rattle.std.specs.declared.cmp.Reverse.{Reverse}
@@ -10,25 +12,14 @@ use Rattle.spl_terms.specs.Clauses.{clause_symbols}
 use Rattle.proof_steps.specs.declared.step.Line.{Line}
 use Rattle.proof_steps.specs.Steps.{numbered}
 use Rattle.split_tree.specs.declared.event.Entry.{Entry}
-use Rattle.split_tree.specs.Journal.{Setting, ledger}
+use Rattle.split_tree.specs.Journal.{Setting, ledger, steps}
 use Rattle.split_tree.specs.Picking.{is_passive}
 use Rattle.case_queue.specs.declared.queue.CaseQueue.{CaseQueue}
-use Rattle.case_queue.specs.Queues.{HasFirst, IsEntry, IsTop, by_weight, entries}
+use Rattle.case_queue.specs.Queues.{HasFirst, HasQueue, HasPassive, IsPut, PutsPassive, IsEntry, IsTop, by_weight, entries}
 use Rattle.case_queue.proofs.Lines.{numbered_some, numbered_once}
 
--- before the first clause
-pub none_held : (s : Setting) (past : List Entry) (m : ℕ) (q : CaseQueue) → heap_items q.lightest ≡ [] → IsHeap by_weight (heap_items q.lightest) → q.oldest ≡ 1 → HasFirst s past m 0 q
-none_held s past m q e h o = record {
-  complete = λ i l within passes found. (let one = numbered_some (ledger s past) i l found in absurd (omega (arith, within, one)));
-  sized = subst (λ xs. All (IsEntry s past) (map (λ x. x.0) xs)) (sym e) (All-nil (IsEntry s past));
-  ordered = h;
-  some = omega (arith, o);
-  within = omega (arith, o);
-  older = λ i one less. absurd (omega (arith, one, less, o));
-}
-
 -- after one more clause, which is not passive
-pub first_skips : (s : Setting) (past : List Entry) (m n : ℕ) (q : CaseQueue) → 1 ≤ n → HasFirst s past m (n - 1) q → is_passive s past m n ≡ false → HasFirst s past m n q
+first_skips : (s : Setting) (past : List Entry) (m n : ℕ) (q : CaseQueue) → 1 ≤ n → HasFirst s past m (n - 1) q → is_passive s past m n ≡ false → HasFirst s past m n q
 first_skips s past m n q one h out = record {
   complete = λ i l within passes found. elim (cases_lt i n) [
     | inl low ↦ h.complete i l (omega (arith, low)) passes found
@@ -41,30 +32,130 @@ first_skips s past m n q one h out = record {
   older = h.older;
 }
 
--- after one more clause, which was pushed
-pub first_pushes : (s : Setting) (past : List Entry) (m n : ℕ) (q : CaseQueue) (l : Line) (x : Reverse (ℕ × ℕ)) (heap : BinaryHeap (Reverse (ℕ × ℕ)) Global) → 1 ≤ n → HasFirst s past m (n - 1) q
-    → numbered (ledger s past) n ≡ Some l → x.0 ≡ (clause_symbols l.stated.clause, n) → IsPermutation (x ∷ heap_items q.lightest) (heap_items heap) → IsHeap by_weight (heap_items heap)
-    → HasFirst s past m n (record { lightest = heap; oldest = q.oldest })
-first_pushes s past m n q l x heap one h found is moves order =
-    let p = IsPermutation-map (λ (y : Reverse (ℕ × ℕ)). y.0) (x ∷ heap_items q.lightest) (heap_items heap) moves in
-    let all = entries (record { lightest = heap; oldest = q.oldest }) in
-    let first : IsEntry s past x.0 = record { line = l; found = ap (λ (y : ℕ × ℕ). numbered (ledger s past) y.1) is ∙ found; symbols = ap (λ (y : ℕ × ℕ). y.0) is } in
+-- what was in the queue still is, and so is the clause
+put_keeps : (s : Setting) (past : List Entry) (n : ℕ) (old new : CaseQueue) (x : ℕ × ℕ) → IsPut s past n old new → Contains (entries old) x → Contains (entries new) x
+put_keeps s past n old new x p h =
+    let own : ℕ × ℕ = (clause_symbols p.line.stated.clause, n) in
+    Contains-permutation (own ∷ entries old) (entries new) x p.added (Contains-append_right (own ∷ []) (entries old) x h)
+
+put_own : (s : Setting) (past : List Entry) (n i : ℕ) (old new : CaseQueue) (l : Line) → IsPut s past n old new → numbered (ledger s past) i ≡ Some l → i ≡ n → Contains (entries new) (clause_symbols l.stated.clause, i)
+put_own s past n i old new l p at e =
+    let g = numbered_once (ledger s past) n i p.line l p.found at e in
+    Contains-permutation ((clause_symbols p.line.stated.clause, n) ∷ entries old) (entries new) (clause_symbols l.stated.clause, i) p.added
+    (0, omega arith, ap (λ (y : Line). (clause_symbols y.stated.clause, n)) (sym g) ∙ ap (λ (j : ℕ). (clause_symbols l.stated.clause, j)) (sym e))
+
+put_sized : (s : Setting) (past : List Entry) (n : ℕ) (old new : CaseQueue) → IsPut s past n old new → All (IsEntry s past) (entries old) → All (IsEntry s past) (entries new)
+put_sized s past n old new p h =
+    let own : ℕ × ℕ = (clause_symbols p.line.stated.clause, n) in
+    All-permutation (IsEntry s past) (own ∷ entries old) (entries new) p.added
+    (All-cons (IsEntry s past) own (entries old) (record { line = p.line; found = p.found; symbols = refl }) h)
+
+-- after one more clause, which was put into the queue
+first_puts : (s : Setting) (past : List Entry) (m n : ℕ) (old new : CaseQueue) → 1 ≤ n → HasFirst s past m (n - 1) old → IsPut s past n old new → HasFirst s past m n new
+first_puts s past m n old new one h p =
+    let w = h.within in
+    let same : new.oldest ≡ old.oldest = (let o = p.oldest in omega (arith, o, one, w)) in
     record {
-      complete = λ i k within passes at. elim (cases_lt i n) [
-        | inl low ↦ Contains-permutation (x.0 ∷ entries q) all (clause_symbols k.stated.clause, i) p
-            (Contains-append_right (x.0 ∷ []) (entries q) (clause_symbols k.stated.clause, i) (h.complete i k (omega (arith, low)) passes at))
-        | inr high ↦
-            let e : i ≡ n = omega (arith, within, high) in
-            let g = numbered_once (ledger s past) n i l k found at e in
-            Contains-permutation (x.0 ∷ entries q) all (clause_symbols k.stated.clause, i) p
-            (0, omega arith, is ∙ (ap (λ (y : Line). (clause_symbols y.stated.clause, n)) (sym g) ∙ ap (λ (j : ℕ). (clause_symbols k.stated.clause, j)) (sym e)))
+      complete = λ i l within passes at. elim (cases_lt i n) [
+        | inl low ↦ put_keeps s past n old new (clause_symbols l.stated.clause, i) p (h.complete i l (omega (arith, low)) passes at)
+        | inr high ↦ put_own s past n i old new l p at (let e : i ≡ n = omega (arith, within, high) in e)
       ];
-      sized = All-permutation (IsEntry s past) (x.0 ∷ entries q) all p (All-cons (IsEntry s past) x.0 (entries q) first h.sized);
-      ordered = order;
-      some = h.some;
-      within = let w = h.within in omega (arith, one, w);
-      older = h.older;
+      sized = put_sized s past n old new p h.sized;
+      ordered = p.ordered h.ordered;
+      some = let o = h.some in omega (arith, same, o);
+      within = omega (arith, same, one, w);
+      older = λ i low less. h.older i low (omega (arith, less, same));
     }
+
+pub first_more : (s : Setting) (past : List Entry) (m n : ℕ) (old new : CaseQueue) → 1 ≤ n → HasFirst s past m (n - 1) old → PutsPassive s past m n old new → HasFirst s past m n new
+first_more s past m n old new one h (inl p) = first_puts s past m n old new one h p.1
+first_more s past m n old new one h (inr p) = subst (HasFirst s past m n) (sym p.1) (first_skips s past m n old one h p.0)
+
+-- of the clauses with the first of these numbers, up to count, those that are passive at m are in the queue, and none of them is older than it says
+pub record HasThese (s : Setting) (past : List Entry) (m : ℕ) (numbers : List ℕ) (count : ℕ) (q : CaseQueue) : Type 0 where
+  pub complete : (k i : ℕ) (l : Line) → k < count → slice_get numbers k ≡ Some i → is_passive s past m i ≡ true → numbered (ledger s past) i ≡ Some l → Contains (entries q) (clause_symbols l.stated.clause, i)
+  pub sized : All (IsEntry s past) (entries q)
+  pub ordered : IsHeap by_weight (heap_items q.lightest)
+  pub some : 1 ≤ q.oldest
+  pub within : q.oldest ≤ steps s past + 1
+  pub older : (k i : ℕ) → k < count → slice_get numbers k ≡ Some i → is_passive s past m i ≡ true → q.oldest ≤ i
+
+-- before the first of them
+pub these_none : (s : Setting) (past : List Entry) (m : ℕ) (numbers : List ℕ) (q : CaseQueue) → heap_items q.lightest ≡ [] → IsHeap by_weight (heap_items q.lightest) → 1 ≤ q.oldest → q.oldest ≤ steps s past + 1 → HasThese s past m numbers 0 q
+these_none s past m numbers q e h one high = record {
+  complete = λ k i l less. absurd (omega (arith, less));
+  sized = subst (λ xs. All (IsEntry s past) (map (λ x. x.0) xs)) (sym e) (All-nil (IsEntry s past));
+  ordered = h;
+  some = one;
+  within = high;
+  older = λ k i less. absurd (omega (arith, less));
+}
+
+same_number : (numbers : List ℕ) (k count i n : ℕ) → k ≡ count → slice_get numbers k ≡ Some i → slice_get numbers count ≡ Some n → i ≡ n
+same_number numbers k count i n e at here = let q : Some i ≡ Some n = sym at ∙ (ap (slice_get numbers) e ∙ here) in cc
+
+these_puts : (s : Setting) (past : List Entry) (m : ℕ) (numbers : List ℕ) (count n : ℕ) (old new : CaseQueue) → slice_get numbers count ≡ Some n → 1 ≤ n → HasThese s past m numbers count old → IsPut s past n old new → HasThese s past m numbers (count + 1) new
+these_puts s past m numbers count n old new here one h p =
+    let o = p.oldest in
+    let least : (new.oldest ≤ old.oldest) × (new.oldest ≤ n) = (omega (arith, o), omega (arith, o)) in
+    record {
+      complete = λ k i l less at passes found. elim (cases_lt k count) [
+        | inl low ↦ put_keeps s past n old new (clause_symbols l.stated.clause, i) p (h.complete k i l low at passes found)
+        | inr high ↦ put_own s past n i old new l p found (same_number numbers k count i n (let e : k ≡ count = omega (arith, less, high) in e) at here)
+      ];
+      sized = put_sized s past n old new p h.sized;
+      ordered = p.ordered h.ordered;
+      some = let w = h.some in omega (arith, o, one, w);
+      within = let w = h.within in omega (arith, w, least.0);
+      older = λ k i less at passes. elim (cases_lt k count) [
+        | inl low ↦ let w = h.older k i low at passes in omega (arith, w, least.0)
+        | inr high ↦ let e = same_number numbers k count i n (let e : k ≡ count = omega (arith, less, high) in e) at here in omega (arith, e, least.1)
+      ];
+    }
+
+these_skip : (s : Setting) (past : List Entry) (m : ℕ) (numbers : List ℕ) (count n : ℕ) (q : CaseQueue) → slice_get numbers count ≡ Some n → is_passive s past m n ≡ false → HasThese s past m numbers count q → HasThese s past m numbers (count + 1) q
+these_skip s past m numbers count n q here out h =
+    let last : (k i : ℕ) → k < count + 1 → slice_get numbers k ≡ Some i → is_passive s past m i ≡ true → k < count = λ k i less at passes. elim (cases_lt k count) [
+      | inl low ↦ low
+      | inr high ↦
+          let e = same_number numbers k count i n (let e : k ≡ count = omega (arith, less, high) in e) at here in
+          let bad : true ≡ false = sym passes ∙ (ap (is_passive s past m) e ∙ out) in absurd (cc)
+    ] in
+    record {
+      complete = λ k i l less at passes found. h.complete k i l (last k i less at passes) at passes found;
+      sized = h.sized;
+      ordered = h.ordered;
+      some = h.some;
+      within = h.within;
+      older = λ k i less at passes. h.older k i (last k i less at passes) at passes;
+    }
+
+-- after one more of them
+pub these_more : (s : Setting) (past : List Entry) (m : ℕ) (numbers : List ℕ) (count n : ℕ) (old new : CaseQueue) → slice_get numbers count ≡ Some n → 1 ≤ n → HasThese s past m numbers count old → PutsPassive s past m n old new → HasThese s past m numbers (count + 1) new
+these_more s past m numbers count n old new here one h (inl p) = these_puts s past m numbers count n old new here one h p.1
+these_more s past m numbers count n old new here one h (inr p) = subst (HasThese s past m numbers (count + 1)) (sym p.1) (these_skip s past m numbers count n old here p.0 h)
+
+-- after all of them
+pub these_all : (s : Setting) (past : List Entry) (m : ℕ) (numbers : List ℕ) (count : ℕ) (q : CaseQueue) → length numbers ≤ count → HasPassive s past m numbers → HasThese s past m numbers count q → HasQueue s past m q
+these_all s past m numbers count q long all h =
+    let place : (i : ℕ) → 1 ≤ i → i ≤ steps s past → is_passive s past m i ≡ true → (k : ℕ) × (k < count) × (slice_get numbers k ≡ Some i) = λ i one within passes.
+    let r = all.complete i one within passes in (r.0, omega (arith, slice_get_within numbers r.0 i r.1, long), r.1) in
+    record {
+      complete = λ i l within passes found. let r = place i (numbered_some (ledger s past) i l found) within passes in h.complete r.0 i l r.1 r.2 passes found;
+      sized = h.sized;
+      ordered = h.ordered;
+      some = h.some;
+      within = h.within;
+      older = λ i one less. not_passive (is_passive s past m i) (λ passes.
+          let high : i ≤ steps s past = (let w = h.within in omega (arith, less, w)) in
+          let r = place i one high passes in
+          let w = h.older r.0 i r.1 r.2 passes in
+          absurd (omega (arith, w, less)));
+    }
+  where
+    not_passive : (b : Bool) → (b ≡ true → ⊥) → b ≡ false
+    not_passive true h = absurd (h refl)
+    not_passive false h = refl
 
 in_rest : {A : Type 0} (x : A) (xs : List A) (y : A) → Contains (x ∷ xs) y → (x ≡ y) ⊎ Contains xs y
 in_rest x xs y (zero, less, is) = inl is

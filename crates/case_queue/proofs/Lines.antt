@@ -1,5 +1,5 @@
 -- Lines by their numbers.
-use Rattle.std.proofs.Common.{◌≡◌, ◌∙◌, ℕ, zero, suc, ◌<◌, ◌≤◌, List, [], ◌∷◌, length, Some, refl, sym, ap, arith}
+use Rattle.std.proofs.Common.{◌≡◌, ◌∙◌, ◌⊎◌, inl, inr, ℕ, zero, suc, ◌<◌, ◌≤◌, List, [], ◌∷◌, ◌++◌, length, Some, refl, sym, ap, arith}
 use Rattle.std.proofs.lemmas.Option.{slice_get_within}
 use Rattle.std.specs.List.{slice_get}
 use Rattle.proof_steps.specs.Steps.{numbered}
@@ -25,3 +25,9 @@ numbered_there (x ∷ xs) (suc (suc k)) some there = numbered_there xs (suc k) (
 
 pub numbered_once : {A : Type 0} (xs : List A) (n i : ℕ) (x y : A) → numbered xs n ≡ Some x → numbered xs i ≡ Some y → i ≡ n → y ≡ x
 numbered_once xs n i x y found at e = let q : Some y ≡ Some x = sym at ∙ (ap (numbered xs) e ∙ found) in cc
+
+pub get_last : {A : Type 0} (xs : List A) (y : A) (k : ℕ) (z : A) → slice_get (xs ++ y ∷ []) k ≡ Some z → (slice_get xs k ≡ Some z) ⊎ ((k ≡ length xs) × (y ≡ z))
+get_last [] y zero z e = let h : y ≡ z = cc in inr (refl, h)
+get_last [] y (suc k) z e = absurd (cc)
+get_last (x ∷ xs) y zero z e = inl e
+get_last (x ∷ xs) y (suc k) z e = elim (get_last xs y k z e) [ inl h ↦ inl h | inr h ↦ inr (ap suc h.0, h.1) ]

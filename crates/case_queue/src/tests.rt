@@ -5,7 +5,7 @@ ghost use Rattle.proof_steps.specs.Steps.{numbered};
 ghost use Rattle.split_tree.specs.Journal.{ledger, nodes};
 ghost use Rattle.split_tree.specs.Facts.{chosen, Holds};
 ghost use Rattle.split_tree.specs.Ending.{reason};
-ghost use Rattle.case_queue.specs.Queues.{HasQueue};
+ghost use Rattle.case_queue.specs.Queues.{HasPassive, HasQueue};
 
 use super::*;
 use spl_terms::{Atom, Clause, Items, Kind, Symbol};
@@ -135,6 +135,17 @@ fn picks(table: &mut Table, queue: &mut CaseQueue, numbers: &[u32]) -> Result<bo
     Ok(table.pick(0).is_none() && queue.pick(table, 0).is_none())
 }
 
+/// The numbers of all clauses, the newest first.
+fn numbers_of_all(alloc: Global, table: &Table) -> Result<Vec<u32>, AllocError>
+    ensures { IfOk result (λ numbers. HasPassive table.now.setting table.now.past 0 numbers.items) }
+{
+    let mut numbers = Vec::new(alloc);
+    for k in 0..table.steps() {
+        numbers.push(table.steps() - k)?;
+    }
+    Ok(numbers)
+}
+
 /// Claims the root of a new table of clauses with so many atoms, fills the queue, and goes on as `picks` does.
 fn picks_of(
     alloc: Global,
@@ -158,7 +169,8 @@ fn picks_of(
     if !claim(&mut table)? || table.nodes() == 0 {
         return Ok(false);
     }
-    queue.fill(&table, 0)?;
+    let all = numbers_of_all(alloc, &table)?;
+    queue.fill(&table, 0, all.as_slice())?;
     Ok(picks(&mut table, queue, numbers)?)
 }
 

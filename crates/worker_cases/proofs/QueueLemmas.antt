@@ -1,21 +1,29 @@
 -- The queue of the node that is held, after each event.
-use Rattle.std.proofs.Common.{◌≡◌, inl, inr, ℕ, ◌-◌, Bool, true, false, not, ◌&&◌, List, length, None, refl, sym, ap, ◌∙◌, subst, arith}
+use Rattle.std.proofs.Common.{◌≡◌, inl, inr, ℕ, ◌-◌, ◌<◌, Bool, true, false, not, ◌&&◌, List, length, None, refl, sym, ap, ◌∙◌, subst, arith}
 use Rattle.std.specs.List.{slice_get}
-use Rattle.std.proofs.lemmas.Bool.{and_from}
+use Rattle.std.proofs.lemmas.Bool.{and_from, and_parts}
 use Rattle.proof_steps.specs.declared.step.Line.{Line}
 use Rattle.split_tree.specs.declared.event.Entry.{Entry}
 use Rattle.split_tree.specs.declared.event.Event.TheVariants.{Choose, Activate}
-use Rattle.split_tree.specs.Journal.{Setting, ledger, steps}
-use Rattle.split_tree.specs.Facts.{listed, worked, split}
+use Rattle.split_tree.specs.Journal.{Setting, ledger, nodes, steps}
+use Rattle.split_tree.specs.Facts.{listed, kept, worked, split, IsLive}
 use Rattle.split_tree.specs.Picking.{is_passive}
 use Rattle.case_queue.specs.declared.queue.CaseQueue.{CaseQueue}
-use Rattle.case_queue.specs.Queues.{HasFirst, HasQueue}
+use Rattle.case_queue.specs.Queues.{HasFirst, HasQueue, HasPassive}
 use Rattle.case_queue.proofs.Keeping.{first_keeps}
 use Rattle.worker_cases.specs.Covering.{AddsLine}
-use Rattle.worker_cases.specs.Working.{listing, KeepsWork}
+use Rattle.worker_cases.specs.Working.{listing, HasLines, KeepsWork}
+use Rattle.worker_cases.proofs.Lists.{at_member, member_place}
 use Rattle.worker_cases.proofs.FilingLemmas.{line_added}
 use Rattle.worker_cases.proofs.TreeLemmas.{quiet_listing}
 use Rattle.worker_cases.proofs.EventLemmas.{after_choice, after_activation, worked_old}
+
+-- what is passive at a live node is among the lines that are listed at live nodes
+pub passive_lines : (s : Setting) (past : List Entry) (m : ℕ) (numbers : List ℕ) → m < nodes past → IsLive s past m → HasLines s past numbers (steps s past) → HasPassive s past m numbers
+passive_lines s past m numbers there live h = record {
+  are = λ k n at. h.are n (at_member numbers k n at);
+  complete = λ i one within passes. member_place numbers i (h.complete i within (record { node = m; there = there; live = live; lists = (and_parts (kept s past m i) _ passes).0 }));
+}
 
 off : (b : Bool) → (b ≡ true → false ≡ true) → not b ≡ true
 off true h = absurd (let x : false ≡ true = h refl in cc)

@@ -80,7 +80,7 @@ impl Index {
         self.update(alloc, table)?;
         file_lines(table, node, self.lines.as_slice(), &mut self.clauses)?;
         file_activations(table, node, self.activations.as_slice(), &mut self.literals)?;
-        self.queue.fill(table, node)?;
+        self.queue.fill(table, node, self.lines.as_slice())?;
         Ok(())
     }
 }
