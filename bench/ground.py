@@ -36,6 +36,7 @@ def main():
         row(f"{count} pigeons in {holes} holes", *pigeons(count, holes), [str(program), "prove"])
     row("5 pigeons in 4 holes, no splits", *pigeons(5, 4), [str(program), "prove", "--splits", "0"])
     row("6 pigeons in 5 holes, 5,000 splits", *pigeons(6, 5), [str(program), "prove", "--splits", "5000"])
+    row("6 pigeons in 5 holes, 1,000 splits", *pigeons(6, 5), [str(program), "prove"])
     for rounds in ("300", "1000", "10000"):
         title = f"500 random clauses of three literals, {rounds} rounds"
         row(title, *random_clauses(500, 100, 1), [str(program), "prove", "--rounds", rounds])
