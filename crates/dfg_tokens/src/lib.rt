@@ -6,8 +6,6 @@
 #![tactic(auto)]
 
 mod piece;
-#[cfg(test)]
-mod tests;
 mod token;
 mod word;
 
