@@ -34,6 +34,7 @@ pub fn problem(alloc: Global, symbols: &str, clauses: &[&str]) -> Result<String,
 }
 
 /// What came of a call over a sure source and a sure sink, and the text that was written.
+#[derive(Drop)]
 pub struct Ran {
     pub report: Report,
     pub text: String,
