@@ -74,13 +74,13 @@ different-distinct xs d = fold-kept xs [] d
 
 -- ---- each variable replaced by itself
 
-atom_itself : (a : Atom) → replace_in_atom (λ v. Var v) a ≡ a
-atom_itself (Holds p ts) = ap (Holds p) (replace_all-itself ts)
-atom_itself (Equal s t) = λ i. Equal (replace-itself s i) (replace-itself t i)
+pub replace_in_atom-itself : (a : Atom) → replace_in_atom (λ v. Var v) a ≡ a
+replace_in_atom-itself (Holds p ts) = ap (Holds p) (replace_all-itself ts)
+replace_in_atom-itself (Equal s t) = λ i. Equal (replace-itself s i) (replace-itself t i)
 
 atoms_itself : (as' : List Atom) → map (replace_in_atom (λ v. Var v)) as' ≡ as'
 atoms_itself [] = refl
-atoms_itself (a ∷ as') = λ i. atom_itself a i ∷ atoms_itself as' i
+atoms_itself (a ∷ as') = λ i. replace_in_atom-itself a i ∷ atoms_itself as' i
 
 pub replace_in-itself : (c : Clause) → replace_in (λ v. Var v) c ≡ c
 replace_in-itself c = λ i. record { constraint = atoms_itself c.constraint i; antecedent = atoms_itself c.antecedent i; succedent = atoms_itself c.succedent i }
@@ -163,7 +163,7 @@ module _ (h k : ℕ → ℕ) where
   rename = replace_in_atom (λ v. Var (h v))
 
   undone_atom : (a : Atom) → Undoes (atom_variables a) → replace_in_atom (λ v. Var (k v)) (rename a) ≡ a
-  undone_atom a u = chained_atom h k (λ v. v) a u ∙ atom_itself a
+  undone_atom a u = chained_atom h k (λ v. v) a u ∙ replace_in_atom-itself a
 
   same-renamed : (a b : Atom) → Undoes (atom_variables a) → Undoes (atom_variables b) → is_same (rename a) (rename b) ≡ is_same a b
   same-renamed a b u v =

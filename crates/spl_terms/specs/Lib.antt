@@ -4,6 +4,7 @@ pub mod ListLaws
 pub mod Terms
 pub mod TermLaws
 pub mod Clauses
+pub mod Hashes
 pub mod SameLaws
 pub mod VariableLaws
 pub mod InOrder

@@ -1,12 +1,15 @@
 -- Laws with their proofs, not definitions that a reader must believe: elements by their numbers, in lists that grow.
 use Rattle.std.proofs.Common.{◌≡◌, ℕ, zero, suc, ◌+◌, ◌-◌, ◌<◌, ◌≤◌, Bool, true, false, List, [], ◌∷◌, ◌++◌, length, map, take, Option, Some, None, option_map, refl, sym, ap, ◌∙◌, arith, slice_get}
-use Rattle.std.specs.Option.{is_some}
+use Rattle.std.specs.Option.{is_some, unwrap_or}
 use Rattle.std.proofs.lemmas.Bool.{false≢true}
 use Rattle.std.proofs.lemmas.Option.{slice_get-map}
 use Rattle.spl_terms.specs.Lists.{numbered}
 
-none : {A : Type 0} (x : A) → None ≡ Some x → ⊥
-none x e = false≢true (ap is_some e)
+pub none≢some : {A : Type 0} (x : A) → None ≡ Some x → ⊥
+none≢some x e = false≢true (ap is_some e)
+
+pub same_item : {A : Type 0} (x y : A) → Some x ≡ Some y → x ≡ y
+same_item x y e = ap (λ o. unwrap_or o x) e
 
 -- ---- elements by their places, from 0
 
@@ -20,7 +23,7 @@ get-right [] ys k = ap (slice_get ys) (let e : 0 + k ≡ k = omega arith in e)
 get-right (x ∷ xs) ys k = ap (slice_get (x ∷ (xs ++ ys))) (let e : suc (length xs) + k ≡ suc (length xs + k) = omega arith in e) ∙ get-right xs ys k
 
 pub get-within : {A : Type 0} (xs : List A) (k : ℕ) (x : A) → slice_get xs k ≡ Some x → k < length xs
-get-within [] k x e = absurd (none x e)
+get-within [] k x e = absurd (none≢some x e)
 get-within (y ∷ xs) zero x e = omega arith
 get-within (y ∷ xs) (suc k) x e = omega (arith, get-within xs k x e)
 
@@ -36,7 +39,7 @@ numbered-get xs zero h = absurd (omega (arith, h))
 numbered-get xs (suc k) h = ap (slice_get xs) (let e : k ≡ suc k - 1 = omega arith in e)
 
 pub numbered-within : {A : Type 0} (xs : List A) (n : ℕ) (x : A) → numbered xs n ≡ Some x → (1 ≤ n) × (n ≤ length xs)
-numbered-within xs zero x e = absurd (none x e)
+numbered-within xs zero x e = absurd (none≢some x e)
 numbered-within xs (suc k) x e = (omega arith, omega (arith, get-within xs k x e))
 
 pub numbered-there : {A : Type 0} (xs : List A) (n : ℕ) → 1 ≤ n → n ≤ length xs → (x : A) × (numbered xs n ≡ Some x)
