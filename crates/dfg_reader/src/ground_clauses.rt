@@ -70,11 +70,7 @@ fn push_copy(
 }
 
 /// Adds the atom of a negated literal; `not(true)` adds nothing.
-fn push_negated(
-    alloc: Global,
-    clause: &mut ClauseBuilder,
-    inner: &Formula,
-) -> Result<(), PushError>
+fn push_negated(alloc: Global, clause: &mut ClauseBuilder, inner: &Formula) -> Result<(), PushError>
     requires { clause_symbols clause.old ≤ 4096 }
     ensures ok { OnOk result (clause.new ≡ with_negated clause.old (out-Formula inner.now)) }
     ensures big { FitsOrBig (clause_symbols (with_negated clause.old (out-Formula inner.now))) result }

@@ -1,4 +1,5 @@
 use super::*;
+use dfg_tokens::is_name;
 use spl_terms::{Kind, Symbol};
 use std::alloc::Global;
 use std::test::Fail;
@@ -50,10 +51,12 @@ fn declares_a_name_once(rt: HostRuntime) -> Result<(), Fail> {
 }
 
 /// A signature with symbols `0`, `1`, and so on.
-fn full(alloc: Global, count: u32) -> Result<Signature, Fail> {
+fn full(rt: &HostRuntime, count: u32) -> Result<Signature, Fail> {
+    let alloc = rt.alloc();
     let mut signature = Signature::new(alloc);
     for i in 0..count {
         let name = format!(in alloc; "{i}")?;
+        assert!(rt; is_name(name.as_str().as_bytes()));
         signature.declare(alloc, name.as_str(), 0, Kind::Function)?;
     }
     Ok(signature)
@@ -66,9 +69,9 @@ fn is_full(answer: Result<Symbol, DeclareError>) -> bool {
 #[test]
 fn holds_as_many_as_allowed(rt: HostRuntime) -> Result<(), Fail> {
     let alloc = rt.alloc();
-    let mut signature = full(alloc, 65_536)?;
+    let mut signature = full(&rt, 65_536)?;
     assert_eq!(rt; signature.count(), 65_536);
-    assert!(rt; is_full(signature.declare(alloc, "one more", 0, Kind::Sort)));
+    assert!(rt; is_full(signature.declare(alloc, "one_more", 0, Kind::Sort)));
     let again = signature.declare(alloc, "65535", 0, Kind::Sort);
     assert_eq!(rt; first_of(again), Some(65_535));
     Ok(())
