@@ -128,7 +128,7 @@ fn prints_a_proof(rt: HostRuntime) -> Result<(), Fail> {
     let mut out = Vec::new(alloc);
     push_bytes(&mut out, b"0")?;
     push_number(alloc, &mut out, 17)?;
-    print_proof(alloc, &mut out, &signature, lines.as_slice())?;
+    let out = print_proof(alloc, out, &signature, lines.as_slice())?;
     let wanted = b"017list_of_proof(spl).
 step(1,cl([],[],[P(a)]),inp,[],[no:1,dep:[]]).
 step(2,cl([],[P(a)],[]),inp,[],[no:2,dep:[]]).
