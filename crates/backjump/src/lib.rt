@@ -4,8 +4,6 @@
 mod case_step;
 mod closing;
 mod settling;
-#[cfg(test)]
-mod tests;
 
 pub use closing::close;
 pub use settling::settle;

@@ -8,8 +8,6 @@
 mod components;
 mod negations;
 mod parts;
-#[cfg(test)]
-mod tests;
 
 pub use negations::negation;
 pub use parts::{Parts, in_order, part_of_side, split_of};

@@ -116,18 +116,16 @@ pub fn part_of_side(alloc: Global, side: u32, clause: &Clause) -> Result<Option<
     }
 }
 
-/// The clause in order: repeated atoms of each part dropped after the first, variables numbered by first occurrence.
+/// The clause in order, however many symbols it has: repeated atoms of each part dropped after the first, variables
+/// numbered by first occurrence.
 ///
 /// # Errors
 ///
-/// Only where there is no memory, or the clause in order has more than 4,096 symbols.
+/// Only where there is no memory.
 pub fn in_order(alloc: Global, clause: Clause) -> Result<Clause, AllocError>
     ensures { IfOk result (λ made. made ≡ in_order clause) }
 {
-    match clause.into_numbered(alloc) {
-        Ok(made) => Ok(made),
-        Err(_) => Err(AllocError),
-    }
+    clause.into_ordered(alloc)
 }
 
 fn parted_by(alloc: Global, clause: &Clause, marks: &[bool]) -> Result<Parts, AllocError>
@@ -152,7 +150,7 @@ fn parted_by(alloc: Global, clause: &Clause, marks: &[bool]) -> Result<Parts, Al
 ///
 /// # Errors
 ///
-/// Only where there is no memory, or a part has more than 4,096 symbols, as none of a clause within that limit has.
+/// Only where there is no memory.
 pub fn split_of(alloc: Global, clause: &Clause) -> Result<Option<Parts>, AllocError>
     ensures exact { IfOk result (λ parts. parts ≡ parts_of clause.now) }
 {

@@ -2,7 +2,5 @@
 #![tactic(auto)]
 
 mod splitting;
-#[cfg(test)]
-mod tests;
 
 pub use splitting::split;

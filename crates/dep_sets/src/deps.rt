@@ -1,3 +1,4 @@
+//! Sets of assumptions as ascending lists.
 ghost use Rattle.std.specs.Prelude.{◌≡◌, ◌↔◌, IsTrue, ◌∷◌, ◌<◌, ◌^◌, ◌||◌, ◌&&◌, not, List, [], length, slice_get, IfOk, Some};
 ghost use Rattle.dep_sets.specs.declared.deps.Assumption.{Assumption};
 ghost use Rattle.dep_sets.specs.Assumptions.{IsAscending, contains_assumption, deepest_place, is_before, is_same_assumption, united, without_assumption};

@@ -2,7 +2,5 @@
 #![tactic(auto)]
 
 mod deps;
-#[cfg(test)]
-mod tests;
 
 pub use deps::{Assumption, Deps};

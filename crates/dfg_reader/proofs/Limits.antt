@@ -11,7 +11,7 @@ use Rattle.spl_terms.specs.declared.clause.Part.TheVariants.{Succedent}
 use Rattle.spl_terms.specs.declared.clause.Clause.{Clause}
 use Rattle.spl_terms.specs.declared.clause.PushError.{PushError}
 use Rattle.spl_terms.specs.declared.clause.PushError.TheVariants.{Big, Memory}
-use Rattle.spl_terms.specs.Clauses.{is_same, part_of, with_atom, clause_symbols, FitsOrBig}
+use Rattle.spl_terms.specs.Clauses.{is_same, part_of, with_atom, clause_symbols, FitsOrBig, IsEmpty}
 use Rattle.spl_terms.proofs.ClauseLemmas.{with_atom-repeated, with_atom-new}
 use Rattle.dfg_reader.specs.declared.formula.Formula.{Formula, Formula-F, out-Formula}
 use Rattle.dfg_reader.specs.declared.formula.Formula.TheOpen as layer
@@ -89,6 +89,11 @@ unfolding are_within_limits
 too_large cs c h =
     let large : list_all is_small (cs ++ c ∷ []) ≡ false = list_all-append is_small cs (c ∷ []) ∙ and_false (list_all is_small cs) (is_small c) (is_small-false c h) in
     rw large (never (nat_le (length (cs ++ c ∷ [])) 65536))
+
+-- ---- no literals yet
+
+pub no_atoms_yet : (c : Clause) → IsEmpty c → c ≡ no_literals
+no_atoms_yet c h = λ i. record { constraint = h.0 i; antecedent = h.1 i; succedent = h.2 i }
 
 -- ---- literals only make a clause larger
 

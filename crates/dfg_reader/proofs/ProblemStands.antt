@@ -12,7 +12,8 @@ use Rattle.dfg_tokens.specs.declared.word.Word.TheVariants as words
 use Rattle.dfg_tokens.specs.declared.piece.Mark.TheVariants.{OpenParenthesis, CloseParenthesis, OpenBracket, CloseBracket, Comma, Dot}
 use Rattle.dfg_tokens.specs.declared.piece.TokenKind.TheVariants as kinds
 use Rattle.dfg_tokens.specs.declared.token.Token.{Token}
-use Rattle.dfg_tokens.specs.Tokens.{token_bytes, tokens, AreLetters, IsSpelled, IsTokenOf, AreTokensOf}
+use Rattle.dfg_tokens.specs.Names.{is_name}
+use Rattle.dfg_tokens.specs.Tokens.{token_bytes, tokens, IsSpelled, IsTokenOf, AreTokensOf}
 use Rattle.dfg_tokens.proofs.OwnBytes.{own_tokens}
 use Rattle.dfg_reader.specs.declared.fault.InputError.{InputError}
 use Rattle.dfg_reader.specs.declared.fault.FaultKind.TheVariants.{Unexpected, DeclaredTwice, OutsideProfile, LimitReached}
@@ -21,7 +22,7 @@ use Rattle.dfg_reader.specs.declared.formula.Formula.{Formula}
 use Rattle.dfg_reader.specs.declared.problem.Entry.{Entry}
 use Rattle.dfg_reader.specs.declared.problem.Problem.{Problem}
 use Rattle.dfg_reader.specs.Reading.{◌>>=◌, Gives, place, tail, refuse, fault, next_word, next_name, mark_at, word_at, identifier_at, name_at, text_at, bytes_of, spelled_at, commas, items, listed}
-use Rattle.dfg_reader.specs.Symbols.{free_if, new_name_at, arity_of, arity_if, arity_at, small_arity, open_entry, symbol_at, symbols_at, is_refused_item, symbol_item_at, signature_at}
+use Rattle.dfg_reader.specs.Symbols.{named_if, free_if, new_name_at, arity_of, arity_if, arity_at, small_arity, open_entry, symbol_at, symbols_at, is_refused_item, symbol_item_at, signature_at}
 use Rattle.dfg_reader.specs.GroundClauses.{formula_clauses, clauses, are_within_limits, HasLimits}
 use Rattle.dfg_reader.specs.Clauses.{body_at, within_limits, label_at, clause_at, clauses_head_at, is_refused_list, list_at}
 use Rattle.dfg_reader.specs.Problems.{is_text_item, is_status, status_at, description_at, descriptions_at, head_at, problem_at, problem}
@@ -48,13 +49,18 @@ free_stands None count at e =
     below : (n : ℕ) → nat_le 65536 n ≡ false → n < 65536
     below n h = grind (arith, nat_tests)
 
-new_name_stands : (bytes : List ℕ) (s : List Declared) (t : Token) (name : List ℕ) → new_name_at bytes s t ≡ Ok name → (token_bytes bytes t ≡ name) × (found name s ≡ None) × (length s < 65536)
+named_stands : (b : Bool) (at : ℕ) → named_if b at ≡ Ok tt → b ≡ true
+named_stands true at e = refl
+named_stands false at e = absurd (fault_not at Unexpected tt e)
+
+new_name_stands : (bytes : List ℕ) (s : List Declared) (t : Token) (name : List ℕ) → new_name_at bytes s t ≡ Ok name → (token_bytes bytes t ≡ name) × (found name s ≡ None) × (length s < 65536) × (is_name name ≡ true)
 unfolding new_name_at
 new_name_stands bytes s t name e =
-    let a = bind_ok (spelled_at bytes t) (λ name. free_if (found name s) (length s) t.at >>= λ free. Ok name) name e in
-    let b = bind_ok (free_if (found a.0 s) (length s) t.at) (λ free. Ok a.0) name a.2 in
-    subst (λ (n : List ℕ). (token_bytes bytes t ≡ n) × (found n s ≡ None) × (length s < 65536)) (ok_is a.0 name b.2)
-    (let free = free_stands (found a.0 s) (length s) t.at b.1 in (spelled_is bytes t a.0 a.1, free.0, free.1))
+    let a = bind_ok (spelled_at bytes t) (λ name. named_if (is_name name) t.at >>= λ named. free_if (found name s) (length s) t.at >>= λ free. Ok name) name e in
+    let n = bind_ok (named_if (is_name a.0) t.at) (λ named. free_if (found a.0 s) (length s) t.at >>= λ free. Ok a.0) name a.2 in
+    let b = bind_ok (free_if (found a.0 s) (length s) t.at) (λ free. Ok a.0) name n.2 in
+    subst (λ (n : List ℕ). (token_bytes bytes t ≡ n) × (found n s ≡ None) × (length s < 65536) × (is_name n ≡ true)) (ok_is a.0 name b.2)
+    (let free = free_stands (found a.0 s) (length s) t.at b.1 in (spelled_is bytes t a.0 a.1, free.0, free.1, named_stands (is_name a.0) t.at n.1))
 
 small_stands : (at n : ℕ) → small_arity at n ≡ Ok tt → n ≤ 255
 small_stands at n e =
@@ -86,7 +92,7 @@ open_stands ts rest e =
     ]
 
 abbrev NewSymbol : List ℕ → Kind → List Declared → List Token → List Declared × List Token → Type 0
-NewSymbol bytes kind s ts q = (d : Declared) × (q.0 ≡ grown lone s d) × declaration bytes kind d ts q.1 × (found d.name s ≡ None) × (length s < 65536) × (d.arity ≤ 255)
+NewSymbol bytes kind s ts q = (d : Declared) × (q.0 ≡ grown lone s d) × declaration bytes kind d ts q.1 × (found d.name s ≡ None) × (length s < 65536) × ((d.arity ≤ 255) × (is_name d.name ≡ true))
 
 symbol_stands : (bytes : List ℕ) (kind : Kind) (s : List Declared) (ts : List Token) (y : List Declared × List Token) → symbol_at bytes kind s ts ≡ Ok y → NewSymbol bytes kind s ts y
 unfolding symbol_at
@@ -102,7 +108,7 @@ symbol_stands bytes kind s ts y e =
     let new = new_name_stands bytes s b.0.0 c.0 c.1 in
     let one : Declared = record { name = c.0; arity = f.0.0; kind = kind } in
     subst (NewSymbol bytes kind s ts) (ok_is (s ++ one ∷ [], h.0) y h.2)
-    (one, refl, (refl, (a.0, open_stands ts a.0 a.1, (f.0.1, (b.0.1, (b.0.0, (name.0, name.1, name.2, new.0), name.3), (d.0, mark_stands Comma b.0.1 d.0 d.1, arity_stands bytes d.0 f.0 f.1)), mark_stands CloseParenthesis f.0.1 h.0 h.1))), new.1, new.2, small_stands b.0.0.at f.0.0 g.1)
+    (one, refl, (refl, (a.0, open_stands ts a.0 a.1, (f.0.1, (b.0.1, (b.0.0, (name.0, name.1, name.2, new.0), name.3), (d.0, mark_stands Comma b.0.1 d.0 d.1, arity_stands bytes d.0 f.0 f.1)), mark_stands CloseParenthesis f.0.1 h.0 h.1))), new.1, new.2, (small_stands b.0.0.at f.0.0 g.1, new.3))
 
 -- ---- the list of symbols
 
@@ -142,68 +148,11 @@ module _ (bytes : List ℕ) where
         | inr h ↦ subst (λ (q : List Declared × List Token). signature bytes q.0 ts q.1) (ok_is ([], ts) y h.1) (inl (refl, refl))
       ]
 
--- ---- each name is of letters, digits and `_`
+-- ---- each name is new and may be one, and the symbols are within the limits
 
 module _ (bytes : List ℕ) where
-  own_after : (P : Phrase) → Keeps P → (ts rest : List Token) → P ts rest → AreTokensOf bytes ts → AreTokensOf bytes rest
-  own_after P keeps ts rest p own = let l = keeps ts rest p in all_right bytes l.front rest (subst (AreTokensOf bytes) l.parts own)
-
-  own_behind : (P : Token → Type 0) (ts rest : List Token) → token P ts rest → AreTokensOf bytes ts → AreTokensOf bytes rest
-  own_behind P ts rest p own = own_after (token P) (weaken (token P) (token_takes P)) ts rest p own
-
-  abbrev HasLetters : Declared → Type 0
-  HasLetters d = AreLetters d.name
-
-  name_letters : (name : List ℕ) (t : Token) → IsNameOf bytes name t → IsTokenOf bytes t → AreLetters name
-  name_letters name t is own =
-      let letters : IsSpelled (kinds.Word is.0) (token_bytes bytes t) = subst (λ k. IsSpelled k (token_bytes bytes t)) is.1 own in
-      subst AreLetters is.3 letters.1
-
-  declaration_letters : (kind : Kind) (d : Declared) (ts rest : List Token) → AreTokensOf bytes ts → declaration bytes kind d ts rest → HasLetters d
-  declaration_letters kind d ts rest own p =
-      let opened = p.1 in
-      let named = opened.2.1 in
-      let inner : AreTokensOf bytes opened.0 = own_behind _ ts opened.0 opened.1 own in
-      name_letters d.name named.1.0 named.1.1 (subst (AreTokensOf bytes) named.1.2 inner).0
-
-  declaration_keeps : (kind : Kind) (d : Declared) → Keeps (declaration bytes kind d)
-  declaration_keeps kind d = weaken (declaration bytes kind d) (declaration_takes bytes kind d)
-
-  behind_letters : (kind : Kind) (ds : List Declared) (ts rest : List Token) → AreTokensOf bytes ts → each_behind_comma (declaration bytes kind) ds ts rest → AllByRecursion HasLetters ds
-  behind_letters kind [] ts rest own p = tt
-  behind_letters kind (d ∷ ds) ts rest own p =
-      let value = p.2 in
-      let here = own_behind _ ts p.0 p.1 own in
-      (declaration_letters kind d p.0 value.0 here value.1, behind_letters kind ds value.0 rest (own_after (declaration bytes kind d) (declaration_keeps kind d) p.0 value.0 value.1 here) value.2)
-
-  declarations_letters : (w : Word) (kind : Kind) (ds : List Declared) (ts rest : List Token) → AreTokensOf bytes ts → declarations bytes w kind ds ts rest → AllByRecursion HasLetters ds
-  declarations_letters w kind [] ts rest own p = tt
-  declarations_letters w kind (d ∷ ds) ts rest own p =
-      let opened = p.2 in
-      let list = opened.2.1 in
-      let here = own_behind _ p.0 opened.0 opened.1 (own_behind _ ts p.0 p.1 own) in
-      (declaration_letters kind d opened.0 list.0 here list.1, behind_letters kind ds list.0 opened.2.0 (own_after (declaration bytes kind d) (declaration_keeps kind d) opened.0 list.0 list.1 here) list.2)
-
-  item_letters : (ds : List Declared) (ts rest : List Token) → AreTokensOf bytes ts → symbol_item bytes ds ts rest → AllByRecursion HasLetters ds
-  item_letters ds ts rest own (inl p) = declarations_letters words.Functions Function ds ts rest own p
-  item_letters ds ts rest own (inr p) = declarations_letters words.Predicates Predicate ds ts rest own p
-
-  groups_letters : (groups : List (List Declared)) (ts rest : List Token) → AreTokensOf bytes ts → each (symbol_item bytes) groups ts rest → AllByRecursion HasLetters (joined groups)
-  groups_letters [] ts rest own p = tt
-  groups_letters (g ∷ groups) ts rest own p =
-      all-append HasLetters g (joined groups) (item_letters g ts p.0 own p.1) (groups_letters groups p.0 rest (own_after (symbol_item bytes g) (weaken (symbol_item bytes g) (symbol_item_takes bytes g)) ts p.0 p.1 own) p.2)
-
-  signature_letters : (symbols : List Declared) (ts rest : List Token) → AreTokensOf bytes ts → signature bytes symbols ts rest → AllByRecursion HasLetters symbols
-  signature_letters symbols ts rest own (inl p) = subst (AllByRecursion HasLetters) (sym p.0) tt
-  signature_letters symbols ts rest own (inr p) =
-      let named = p.2 in
-      let dot = named.2 in
-      subst (AllByRecursion HasLetters) (sym p.1) (groups_letters p.0 dot.0 dot.2.0 (own_behind _ named.0 dot.0 dot.1 (own_behind _ ts named.0 named.1 own)) dot.2.1)
-
-  -- ---- each name is new, and the symbols are within the limits
-
   abbrev IsSmall : Declared → Type 0
-  IsSmall d = d.arity ≤ 255
+  IsSmall d = (d.arity ≤ 255) × (is_name d.name ≡ true)
 
   abbrev Sound : List Declared → Type 0
   Sound s = HasOwnNames s × (length s ≤ 65536) × AllByRecursion IsSmall s
@@ -248,14 +197,8 @@ module _ (bytes : List ℕ) where
         | inr h ↦ subst (λ (q : List Declared × List Token). Sound q.0) (ok_is ([], ts) y h.1) none_sound
       ]
 
-  both_hold : (xs : List Declared) → AllByRecursion IsSmall xs → AllByRecursion HasLetters xs → AllByRecursion (λ d. (d.arity ≤ 255) × AreLetters d.name) xs
-  both_hold [] small letters = tt
-  both_hold (x ∷ xs) small letters = ((small.0, letters.0), both_hold xs small.1 letters.1)
-
-  signature_is : (ts : List Token) (y : List Declared × List Token) → AreTokensOf bytes ts → signature_at bytes [] ts ≡ Ok y → IsSignature y.0
-  signature_is ts y own e =
-      let sound = signature_sound ts y e in
-      (sound.0, sound.1, both_hold y.0 sound.2 (signature_letters y.0 ts y.1 own (signature_stands bytes ts y e)))
+  signature_is : (ts : List Token) (y : List Declared × List Token) → signature_at bytes [] ts ≡ Ok y → IsSignature y.0
+  signature_is ts y e = signature_sound ts y e
 
 -- ---- the clauses are within the limits
 
@@ -384,12 +327,11 @@ problem_stands bytes p e =
     let read : Problem = record { signature = c.0.0; entries = d.0.0; proofs = []; end_at = place d.0.1 } in
     let begun = head_stands (tokens bytes) a.0 a.1 in
     let described = descriptions_stand a.0 b.0 b.1 in
-    let own = own_after bytes descriptions descriptions_keep a.0 b.0 described (own_after bytes head head_keeps (tokens bytes) a.0 begun (own_tokens bytes)) in
     let lists = items_stand (clause_list bytes c.0.0) (grown whole) (list_at bytes c.0.0) (list_stands bytes c.0.0) words.EndProblem (length c.0.1) [] c.0.1 d.0 d.1 in
     let limited = items_keep HasLimits (list_at bytes c.0.0) (list_limited bytes c.0.0) words.EndProblem (length c.0.1) [] c.0.1 d.0 none_limited d.1 in
     subst (IsWritten bytes) (ok_is read p f.2) (
       f.0,
-      signature_is bytes b.0 c.0 own c.1,
+      signature_is bytes b.0 c.0 c.1,
       limited,
       refl,
       (a.0, begun, (b.0, described, (c.0.1, signature_stands bytes b.0 c.0 c.1, (d.0.1, (lists.0, lists.1 ∙ fold_whole [] lists.0, lists.2), (refl, (tail d.0.1, lists.3, mark_stands Dot (tail d.0.1) f.0 f.1)))))),

@@ -12,13 +12,14 @@ use Rattle.dfg_tokens.specs.declared.word.Word.TheVariants as words
 use Rattle.dfg_tokens.specs.declared.piece.Mark.TheVariants.{OpenParenthesis, CloseParenthesis, OpenBracket, CloseBracket, Comma, Dot}
 use Rattle.dfg_tokens.specs.declared.token.Token.{Token}
 use Rattle.dfg_tokens.specs.Words.{spelling}
-use Rattle.dfg_tokens.specs.Tokens.{token_bytes, tokens, AreLetters}
+use Rattle.dfg_tokens.specs.Names.{is_name}
+use Rattle.dfg_tokens.specs.Tokens.{token_bytes, tokens}
 use Rattle.dfg_reader.specs.declared.problem.Entry.{Entry}
 use Rattle.dfg_reader.specs.declared.problem.Problem.{Problem}
 use Rattle.dfg_reader.specs.declared.fault.ReadFault.{ReadFault}
 use Rattle.dfg_reader.specs.declared.fault.InputError.{InputError}
 use Rattle.dfg_reader.specs.Reading.{Gives, tail, next_word, mark_at, bytes_of, items}
-use Rattle.dfg_reader.specs.Symbols.{free_if, new_name_at, arity_if, arity_at, small_arity, open_entry, symbol_at, symbols_at, is_refused_item, symbol_item_at, signature_at}
+use Rattle.dfg_reader.specs.Symbols.{named_if, free_if, new_name_at, arity_if, arity_at, small_arity, open_entry, symbol_at, symbols_at, is_refused_item, symbol_item_at, signature_at}
 use Rattle.dfg_reader.specs.GroundClauses.{HasLimits}
 use Rattle.dfg_reader.specs.Clauses.{list_at}
 use Rattle.dfg_reader.specs.Problems.{is_text_item, is_status, status_at, description_at, descriptions_at, head_at, problem_at, problem}
@@ -27,7 +28,7 @@ use Rattle.dfg_reader.proofs.Names.{new_name, get_next}
 use Rattle.dfg_reader.proofs.Steps.{then_ok, when_true, when_false, token_tail, other_mark, mark_read, mark_no_name, next_word_is, other_word, word_next, word_read, identifier_read, name_read, text_read}
 use Rattle.dfg_reader.proofs.Fronts.{declaration_takes, symbol_item_takes, description_takes, clause_list_takes}
 use Rattle.dfg_reader.proofs.InRow.{Begins, begins_earlier, grown, lone, whole, fold_lone, fold_whole, Anything, separated_read, items_read, listed_read}
-use Rattle.dfg_reader.proofs.WrittenTerms.{spelled_read, all_at}
+use Rattle.dfg_reader.proofs.WrittenTerms.{name_letters, spelled_read, all_at}
 use Rattle.dfg_reader.proofs.WrittenClauses.{list_read}
 
 -- ---- declarations
@@ -55,12 +56,13 @@ module _ (bytes : List ℕ) (all : List Declared) (sig : IsSignature all) where
   new_name_read : (s : List Declared) (d : Declared) (t : Token) → Begins all (s ++ d ∷ []) → token_bytes bytes t ≡ d.name → new_name_at bytes s t ≡ Ok d.name
   unfolding new_name_at
   new_name_read s d t begins text =
-      let letters : AreLetters d.name = (all_at (λ (x : Declared). (x.arity ≤ 255) × AreLetters x.name) all (length s) d sig.2 (own s d begins)).1 in
-      then_ok _ _ _ _ (spelled_read bytes t d.name text letters)
-      (then_ok _ tt _ _ (ap (λ o. free_if o (length s) t.at) (is_new s d begins) ∙ when_false _ _ _ _ (has_room s d begins) refl) refl)
+      let named : is_name d.name ≡ true = (all_at (λ (x : Declared). (x.arity ≤ 255) × (is_name x.name ≡ true)) all (length s) d sig.2 (own s d begins)).1 in
+      then_ok _ _ _ _ (spelled_read bytes t d.name text (name_letters d.name named))
+      (then_ok _ tt _ _ (ap (λ b. named_if b t.at) named)
+      (then_ok _ tt _ _ (ap (λ o. free_if o (length s) t.at) (is_new s d begins) ∙ when_false _ _ _ _ (has_room s d begins) refl) refl))
 
   small_read : (s : List Declared) (d : Declared) (at : ℕ) → Begins all (s ++ d ∷ []) → small_arity at d.arity ≡ Ok tt
-  small_read s d at begins = when_false _ _ _ _ (small d.arity (all_at (λ (x : Declared). (x.arity ≤ 255) × AreLetters x.name) all (length s) d sig.2 (own s d begins)).0) refl
+  small_read s d at begins = when_false _ _ _ _ (small d.arity (all_at (λ (x : Declared). (x.arity ≤ 255) × (is_name x.name ≡ true)) all (length s) d sig.2 (own s d begins)).0) refl
     where
       small : (n : ℕ) → n ≤ 255 → nat_lt 255 n ≡ false
       small n h = grind (arith, nat_tests)

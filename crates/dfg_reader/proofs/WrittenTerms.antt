@@ -1,5 +1,5 @@
 -- A term that is written is read, and so are an atom and a literal.
-use Rattle.std.proofs.Common.{◌≡◌, eq-eqb, ℕ, zero, suc, ◌-◌, ◌≤◌, ◌<◌, Bool, true, false, List, [], ◌∷◌, length, slice_get, Some, option_map, Result, Ok, refl, sym, ap, subst, ◌∙◌, arith}
+use Rattle.std.proofs.Common.{◌≡◌, eq-eqb, ℕ, zero, suc, ◌-◌, ◌≤◌, ◌<◌, Bool, true, false, not, ◌==◌, List, [], ◌∷◌, length, slice_get, Some, option_map, Result, Ok, refl, sym, ap, subst, ◌∙◌, arith}
 use Rattle.std.proofs.lemmas.Bool.Decides.{nat_tests}
 use Rattle.std.proofs.lemmas.Str.{IsUtf8-from_ascii, is_utf8-from_IsUtf8}
 use Rattle.std.specs.List.{list_all, AllByRecursion}
@@ -10,6 +10,7 @@ use Rattle.spl_terms.specs.declared.atom.Atom.{Atom}
 use Rattle.spl_symbols.specs.Symbols.{Declared, found}
 use Rattle.dfg_tokens.specs.declared.piece.Mark.TheVariants.{OpenParenthesis, CloseParenthesis, Comma}
 use Rattle.dfg_tokens.specs.declared.token.Token.{Token}
+use Rattle.dfg_tokens.specs.Names.{is_identifier, is_reserved_word, is_name}
 use Rattle.dfg_tokens.specs.Tokens.{is_letter, token_bytes, AreLetters}
 use Rattle.dfg_reader.specs.declared.fault.ReadFault.{ReadFault}
 use Rattle.dfg_reader.specs.declared.symbols.Found.{Found}
@@ -32,7 +33,13 @@ letters_ascii [] all i = omega arith
 letters_ascii (b ∷ text) all zero = letter_small b (and_parts (is_letter b) (list_all is_letter text) all).0
 letters_ascii (b ∷ text) all (suc i) = letters_ascii text (and_parts (is_letter b) (list_all is_letter text) all).1 i
 
--- a name of letters, digits and `_` is text
+-- a name is of letters, digits and `_`
+pub name_letters : (name : List ℕ) → is_name name ≡ true → AreLetters name
+name_letters name e =
+    let identifier = (and_parts (is_identifier name) (not (is_reserved_word name)) e).0 in
+    (and_parts (not (length name == 0)) (list_all is_letter name) identifier).1
+
+-- and so it is text
 pub spelled_read : (bytes : List ℕ) (t : Token) (name : List ℕ) → token_bytes bytes t ≡ name → AreLetters name → spelled_at bytes t ≡ Ok name
 unfolding spelled_at bytes_of
 spelled_read bytes t name is letters =
@@ -63,7 +70,7 @@ module _ (bytes : List ℕ) (symbols : List Declared) (sig : IsSignature symbols
   unfolding symbol_named lookup
   symbol_read in_term s count name t is text =
       let d : Declared = record { name = name; arity = count; kind = s.kind } in
-      let letters : AreLetters name = (all_at (λ (x : Declared). (x.arity ≤ 255) × AreLetters x.name) symbols s.number d sig.2 is.1).1 in
+      let letters : AreLetters name = name_letters name (all_at (λ (x : Declared). (x.arity ≤ 255) × (is_name x.name ≡ true)) symbols s.number d sig.2 is.1).1 in
       let looked : with_arity symbols (found name symbols) ≡ Some (record { symbol = s; arity = count }) = ap (with_arity symbols) (sig.0 s.number d is.1) ∙ ap (option_map {U = Found} (λ (x : Declared). record { symbol = s; arity = x.arity })) is.1 in
       then_ok _ _ _ _ (spelled_read bytes t name text letters) (ap (fitting in_term t.at) looked ∙ when_true _ _ _ _ is.0 refl)
 

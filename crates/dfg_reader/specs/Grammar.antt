@@ -14,7 +14,8 @@ use Rattle.dfg_tokens.specs.declared.piece.Mark.{Mark}
 use Rattle.dfg_tokens.specs.declared.piece.Mark.TheVariants.{OpenParenthesis, CloseParenthesis, OpenBracket, CloseBracket, Comma, Dot}
 use Rattle.dfg_tokens.specs.declared.piece.TokenKind.TheVariants as kinds
 use Rattle.dfg_tokens.specs.declared.token.Token.{Token}
-use Rattle.dfg_tokens.specs.Tokens.{token_bytes, tokens, AreLetters}
+use Rattle.dfg_tokens.specs.Names.{is_name}
+use Rattle.dfg_tokens.specs.Tokens.{token_bytes, tokens}
 use Rattle.dfg_reader.specs.declared.formula.Formula.{Formula, True, False, Not, Or}
 use Rattle.dfg_reader.specs.declared.formula.Formula as formulas
 use Rattle.dfg_reader.specs.declared.problem.Role.TheVariants as roles
@@ -217,9 +218,10 @@ ending at ts rest = (at ≡ place ts) × (word words.EndProblem ⨾ mark Dot) ts
 abbrev pub clause_lists : List ℕ → List Declared → List Entry → Phrase
 clause_lists bytes symbols entries ts rest = (groups : List (List Entry)) × (entries ≡ joined groups) × each (clause_list bytes symbols) groups ts rest
 
--- no name stands twice, and there are at most 65,536 symbols, of at most 255 arguments, with names of letters, digits and `_`
+-- no name stands twice, and there are at most 65,536 symbols, of at most 255 arguments, each called by an identifier that is no reserved
+-- word
 abbrev pub IsSignature : List Declared → Type 0
-IsSignature symbols = HasOwnNames symbols × (length symbols ≤ 65536) × AllByRecursion (λ d. (d.arity ≤ 255) × AreLetters d.name) symbols
+IsSignature symbols = HasOwnNames symbols × (length symbols ≤ 65536) × AllByRecursion (λ d. (d.arity ≤ 255) × (is_name d.name ≡ true)) symbols
 
 -- The bytes spell the problem. What follows `end_problem.` may be anything.
 abbrev pub IsWritten : List ℕ → Problem → Type 0

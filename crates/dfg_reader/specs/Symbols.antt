@@ -4,6 +4,7 @@ use Rattle.spl_terms.specs.declared.term.Kind.{Kind}
 use Rattle.spl_terms.specs.declared.term.Kind.TheVariants.{Function, Predicate}
 use Rattle.spl_terms.specs.declared.term.Symbol.{Symbol}
 use Rattle.spl_symbols.specs.Symbols.{Declared, found}
+use Rattle.dfg_tokens.specs.Names.{is_name}
 use Rattle.dfg_tokens.specs.declared.token.Token.{Token}
 use Rattle.dfg_tokens.specs.declared.piece.Mark.TheVariants.{OpenParenthesis, CloseParenthesis, OpenBracket, CloseBracket, Comma, Dot}
 use Rattle.dfg_tokens.specs.declared.word.Word.TheVariants as words
@@ -28,10 +29,15 @@ abbrev pub free_if : Option Symbol → ℕ → ℕ → Result ⊤ ReadFault
 free_if (Some s) count at = fault at DeclaredTwice
 free_if None count at = if nat_le 65536 count then fault at (LimitReached limits.Symbols) else Ok tt
 
--- the name that the token spells, if it may be declared: first it must be new, then there must be room
+-- A symbol may have this name. What the tokens take for a name always passes, so nothing is refused here.
+abbrev pub named_if : Bool → ℕ → Result ⊤ ReadFault
+named_if b at = if b then Ok tt else fault at Unexpected
+
+-- the name that the token spells, if it may be declared: it must be a name, then new, then there must be room
 unfoldable pub new_name_at : List ℕ → List Declared → Token → Result (List ℕ) ReadFault
 new_name_at bytes symbols token = do
   name ← spelled_at bytes token
+  named ← named_if (is_name name) token.at
   free ← free_if (found name symbols) (length symbols) token.at
   Ok name
 

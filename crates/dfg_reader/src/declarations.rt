@@ -1,6 +1,7 @@
 //! Symbols looked up and declared while a problem is read.
 
-ghost use Rattle.std.specs.Prelude.{◌≡◌, ◌<◌, ◌++◌, [], ◌∷◌, None, length, OnOk, OnErr};
+ghost use Rattle.std.specs.Prelude.{◌≡◌, ◌<◌, ◌++◌, [], ◌∷◌, None, true, length, OnOk, OnErr};
+ghost use Rattle.dfg_tokens.specs.Names.{is_name};
 ghost use Rattle.spl_symbols.specs.Symbols.{found};
 ghost use Rattle.dfg_reader.specs.Symbols.{lookup};
 
@@ -23,7 +24,7 @@ pub fn lookup(symbols: &Signature, name: &str) -> Option<Found>
     }
 }
 
-/// Declares a name that is new, where there is room for it. An error is want of memory.
+/// Declares an identifier that is no reserved word and is new, where there is room for it. An error is want of memory.
 pub fn declare(
     symbols: &mut Signature,
     alloc: Global,
@@ -31,6 +32,7 @@ pub fn declare(
     arity: u32,
     kind: Kind,
 ) -> Result<(), AllocError>
+    requires named { is_name name.now ≡ true }
     requires new { found name.now symbols.old ≡ None }
     requires room { length symbols.old < 65536 }
     ensures ok { OnOk result (symbols.new ≡ symbols.old ++ record { name = name.now; arity = arity; kind = kind } ∷ []) }

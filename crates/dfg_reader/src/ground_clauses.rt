@@ -10,7 +10,7 @@ ghost use Rattle.dfg_reader.specs.GroundClauses.{is_true_literal, is_false_layer
 
 use crate::formula::Formula;
 use crate::problem::{Entry, Problem, Role};
-use spl_terms::{Atom, Clause, Items, Part, PushError, symbols_of};
+use spl_terms::{Atom, Clause, ClauseBuilder, Items, Part, PushError};
 use std::alloc::{AllocError, Global};
 use std::marker::Model;
 use std::slice;
@@ -53,19 +53,24 @@ fn negated_part(atom: &Atom) -> Part
 }
 
 /// Adds a copy of the atom to a part.
-fn push_copy(alloc: Global, clause: &mut Clause, part: Part, atom: &Atom) -> Result<(), PushError>
+fn push_copy(
+    alloc: Global,
+    clause: &mut ClauseBuilder,
+    part: Part,
+    atom: &Atom,
+) -> Result<(), PushError>
     requires { CanStand part atom.now }
     ensures ok { OnOk result (clause.new ≡ with_atom clause.old part atom.now) }
     ensures big { FitsOrBig (clause_symbols (with_atom clause.old part atom.now)) result }
 {
     match atom.copy(alloc) {
-        Ok(copied) => clause.push_atom(part, copied),
+        Ok(copied) => clause.push(part, copied),
         Err(_) => Err(PushError::Memory),
     }
 }
 
 /// Adds the atom of a negated literal; `not(true)` adds nothing.
-fn push_negated(alloc: Global, clause: &mut Clause, inner: &Formula) -> Result<(), PushError>
+fn push_negated(alloc: Global, clause: &mut ClauseBuilder, inner: &Formula) -> Result<(), PushError>
     requires { clause_symbols clause.old ≤ 4096 }
     ensures ok { OnOk result (clause.new ≡ with_negated clause.old (out-Formula inner.now)) }
     ensures big { FitsOrBig (clause_symbols (with_negated clause.old (out-Formula inner.now))) result }
@@ -77,7 +82,11 @@ fn push_negated(alloc: Global, clause: &mut Clause, inner: &Formula) -> Result<(
 }
 
 /// Adds the literal to the clause.
-fn push_literal(alloc: Global, clause: &mut Clause, literal: &Formula) -> Result<(), PushError>
+fn push_literal(
+    alloc: Global,
+    clause: &mut ClauseBuilder,
+    literal: &Formula,
+) -> Result<(), PushError>
     requires { clause_symbols clause.old ≤ 4096 }
     ensures ok { OnOk result (clause.new ≡ with_literal clause.old literal.now) }
     ensures big { FitsOrBig (clause_symbols (with_literal clause.old literal.now)) result }
@@ -93,11 +102,7 @@ fn push_literal(alloc: Global, clause: &mut Clause, literal: &Formula) -> Result
 fn clause_within(alloc: Global, literals: &[Formula]) -> Result<Option<Clause>, AllocError>
     ensures { IfOk result (λ found. IsWithin found (fold with_literal no_literals literals.now)) }
 {
-    let mut clause = Clause {
-        constraint: Items::new(alloc),
-        antecedent: Items::new(alloc),
-        succedent: Items::new(alloc),
-    };
+    let mut clause = ClauseBuilder::new(alloc);
     for literal in literals {
         match push_literal(alloc, &mut clause, literal) {
             Ok(()) => {}
@@ -105,7 +110,7 @@ fn clause_within(alloc: Global, literals: &[Formula]) -> Result<Option<Clause>, 
             Err(PushError::Memory) => return Err(AllocError),
         }
     }
-    Ok(Some(clause))
+    Ok(Some(clause.finish()))
 }
 
 /// Whether the clause of the literals has at most 4,096 symbols.

@@ -15,8 +15,6 @@ mod problem;
 mod reader;
 mod symbols;
 mod terms;
-#[cfg(test)]
-mod tests;
 
 pub use fault::{FaultKind, InputError, Limit, ReadFault};
 pub use formula::Formula;

@@ -1,6 +1,7 @@
 //! The list of symbols.
 
-ghost use Rattle.std.specs.Prelude.{◌≡◌, ◌<◌, ◌≤◌, ◌^◌, ◌++◌, [], ◌∷◌, None, nat_le, length, OnOk, IfOk};
+ghost use Rattle.std.specs.Prelude.{◌≡◌, ◌<◌, ◌≤◌, ◌^◌, ◌++◌, [], ◌∷◌, None, true, nat_le, length, OnOk, IfOk};
+ghost use Rattle.dfg_tokens.specs.Names.{is_name};
 ghost use Rattle.spl_symbols.specs.Symbols.{found};
 ghost use Rattle.dfg_reader.specs.Reading.{Gives, commas, items, listed};
 ghost use Rattle.dfg_reader.specs.Symbols.{new_name_at, arity_of, arity_at, open_entry, symbol_at, symbols_at, symbol_item_at, signature_at, is_refused_item};
@@ -11,7 +12,7 @@ use crate::marks::{
     bytes_of, identifier, mark, name, next_is_mark, next_is_name, next_is_word, refused,
     spelled_name, tail, unexpected,
 };
-use dfg_tokens::{Mark, Token, Word};
+use dfg_tokens::{Mark, Token, Word, is_name};
 use spl_symbols::Signature;
 use spl_terms::{Kind, Symbol};
 use std::alloc::Global;
@@ -31,8 +32,15 @@ fn new_name<'a>(bytes: &'a [u8], symbols: &Signature, token: Token) -> Result<&'
     ensures given { Gives (λ name. name.now) result (new_name_at bytes.now symbols.now token) }
     ensures new { IfOk result (λ name. found name.now symbols.now ≡ None) }
     ensures room { OnOk result (length symbols.now < 65536) }
+    ensures named { IfOk result (λ name. is_name name.now ≡ true) }
 {
     let name = spelled_name(bytes, token)?;
+    if !is_name(name.as_bytes()) {
+        return Err(InputError::Fault(ReadFault {
+            at: token.at as usize,
+            kind: FaultKind::Unexpected,
+        }));
+    }
     if symbols.find(name).is_some() {
         return Err(InputError::Fault(ReadFault {
             at: token.at as usize,

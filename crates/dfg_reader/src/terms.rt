@@ -113,12 +113,12 @@ fn application<'a>(
 {
     let (name, rest) = name(tokens)?;
     let found = symbol_named(bytes, symbols, in_term, name)?;
-    let (args, rest) = arguments(alloc, bytes, symbols, depth, rest)?;
+    let (args, rest) = arguments(alloc, bytes, symbols, depth, found.arity, rest)?;
     counted(name.at as usize, found, args.len())?;
     Ok((found.symbol, args, rest))
 }
 
-/// The arguments in parentheses, if there are any.
+/// The arguments in parentheses, if there are any; room is taken for as many as are declared.
 #[cycle(term)]
 #[tactic(auto, unfolding(crate::specs::Terms::arguments_at))]
 fn arguments<'a>(
@@ -126,6 +126,7 @@ fn arguments<'a>(
     bytes: &[u8],
     symbols: &Signature,
     depth: u32,
+    declared: u32,
     tokens: &'a [Token],
 ) -> Result<(Items<Term>, &'a [Token]), InputError>
     ensures { Gives (λ x. (x.0, x.1.now)) result (arguments_at (term_at bytes.now symbols.now depth) tokens.now) }
@@ -133,12 +134,12 @@ fn arguments<'a>(
     if !next_is_mark(Mark::OpenParenthesis, tokens) {
         return Ok((Items::new(alloc), tokens));
     }
-    let (args, rest) = terms(alloc, bytes, symbols, depth, tail(tokens))?;
+    let (args, rest) = terms(alloc, bytes, symbols, depth, declared, tail(tokens))?;
     let rest = mark(Mark::CloseParenthesis, rest)?;
     Ok((args, rest))
 }
 
-/// Terms with commas between them.
+/// Terms with commas between them; room is taken for as many as are declared.
 #[cycle(term)]
 #[tactic(auto, using(crate::proofs::Rounds::rounds))]
 fn terms<'a>(
@@ -146,11 +147,12 @@ fn terms<'a>(
     bytes: &[u8],
     symbols: &Signature,
     depth: u32,
+    declared: u32,
     tokens: &'a [Token],
 ) -> Result<(Items<Term>, &'a [Token]), InputError>
     ensures { Gives (λ x. (x.0, x.1.now)) result (terms_at (term_at bytes.now symbols.now depth) tokens.now) }
 {
-    let mut terms = Items::new(alloc);
+    let mut terms = Items::with_room(alloc, declared as usize)?;
     let mut rest = tokens;
     for _ in 0..tokens.len() {
         let (next, after) = term(alloc, bytes, symbols, depth, rest)?;

@@ -5,12 +5,12 @@
 //! Syntax 1.5 in the form that `docs/grammar.md` states.
 #![tactic(auto)]
 
+mod name;
 mod piece;
-#[cfg(test)]
-mod tests;
 mod token;
 mod word;
 
+pub use name::is_name;
 pub use piece::{Mark, Piece, TokenKind, mark_byte};
 pub use token::{Token, tokens_of};
-pub use word::{Word, spelled};
+pub use word::{RESERVED, Word, spelled};

@@ -90,7 +90,7 @@ fn is_space(byte: u8) -> bool
 }
 
 /// Whether the byte may stand in an identifier.
-fn is_letter(byte: u8) -> bool
+pub fn is_letter(byte: u8) -> bool
     ensures { result ≡ is_letter byte }
 {
     b'a' <= byte && byte <= b'z'

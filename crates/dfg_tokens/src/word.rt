@@ -148,6 +148,21 @@ const WORDS: [Word; 45] = [
     Word::False,
 ];
 
+/// The words that are no names.
+pub const RESERVED: [Word; 11] = [
+    Word::Forall,
+    Word::Exists,
+    Word::Not,
+    Word::And,
+    Word::Or,
+    Word::Implies,
+    Word::Implied,
+    Word::Equiv,
+    Word::Equal,
+    Word::True,
+    Word::False,
+];
+
 /// How the word is spelled; `Plain` has no spelling of its own, and gives no bytes.
 pub fn spelled(word: Word) -> &'static [u8]
     ensures { result.now ≡ spelling word }

@@ -1,3 +1,4 @@
+//! How two terms, or two views of atoms, stand in the order of Knuth and Bendix.
 ghost use Rattle.std.specs.Prelude.{◌≡◌, ◌≤◌, sum, map, IfSome};
 ghost use Rattle.spl_terms.specs.Terms.{term_symbols, term_eq};
 ghost use Rattle.kbo.specs.Comparisons.{compare};

@@ -1,3 +1,4 @@
+//! The precedence: which head of two applications is greater.
 ghost use Rattle.std.specs.Prelude.{◌≡◌};
 ghost use Rattle.spl_truth.specs.Orders.{kind_rank, is_greater_symbol, is_greater_head};
 ghost use Rattle.kbo.specs.Comparisons.{compare_heads};

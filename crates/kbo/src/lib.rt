@@ -9,8 +9,6 @@ mod ordering;
 mod places;
 mod side;
 mod tally;
-#[cfg(test)]
-mod tests;
 mod view;
 mod walking;
 

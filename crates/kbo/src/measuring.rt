@@ -1,3 +1,4 @@
+//! The measures of occurrences of atoms in a clause, and which of two is greater.
 ghost use Rattle.std.specs.Prelude.{◌≡◌, ◌≤◌, ◌&&◌, ◌||◌, ◌==◌, not};
 ghost use Rattle.std.specs.List.{list_any, list_all};
 ghost use Rattle.spl_terms.specs.Terms.{term_symbols};

@@ -1,3 +1,4 @@
+//! The four ways in which two terms may stand to each other.
 /// How two terms stand in the order (Knuth and Bendix 1970).
 #[derive(Clone, Copy, PartialEq, Eq, Debug)]
 pub enum Order {

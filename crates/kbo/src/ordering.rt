@@ -1,3 +1,4 @@
+//! Comparing a variable with an application, and applications of equal weight argument by argument.
 ghost use Rattle.std.specs.Prelude.{◌≡◌, false, ◌==◌, ◌≤◌, length, sum, map, nat_lt, if◌then◌else◌};
 ghost use Rattle.std.specs.List.{list_any, flat_map};
 ghost use Rattle.spl_terms.specs.Terms.{term_symbols, term_variables};

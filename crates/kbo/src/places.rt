@@ -1,3 +1,4 @@
+//! Which places of a clause are maximal, and which are eligible for inferences.
 ghost use Rattle.std.specs.Prelude.{◌≡◌, ◌==◌, ◌≤◌, sum_by};
 ghost use Rattle.std.specs.List.{list_any, flat_map};
 ghost use Rattle.spl_terms.specs.Terms.{term_variables};

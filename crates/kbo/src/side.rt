@@ -1,3 +1,4 @@
+//! The two sides of a comparison, so that one walk serves both.
 /// A side of a comparison.
 #[derive(Clone, Copy, PartialEq, Eq, Debug)]
 pub(crate) enum Side {

@@ -1,3 +1,4 @@
+//! What one term has more of than the other, counted in one walk over both.
 ghost use Rattle.std.specs.Prelude.{◌≡◌, ◌+◌, ◌<◌, ◌≤◌, fold, length, sum, map, sum_by, nat_lt, if◌then◌else◌};
 ghost use Rattle.std.specs.List.{flat_map};
 ghost use Rattle.spl_terms.specs.Terms.{term_symbols, term_variables};

@@ -1,3 +1,4 @@
+//! Terms and atoms seen alike, so that atoms are compared without a copy.
 ghost use Rattle.std.specs.Prelude.{◌≡◌};
 ghost use Rattle.kbo.specs.Views.{term_of};
 

@@ -1,3 +1,4 @@
+//! Occurrences of variables counted by walks, for terms with more variables than a tally counts.
 ghost use Rattle.std.specs.Prelude.{◌≡◌, ◌==◌, ◌≤◌, min, sum, map, nat_le};
 ghost use Rattle.std.specs.List.{list_any, list_all, flat_map};
 ghost use Rattle.spl_terms.specs.Terms.{term_symbols, term_variables};

@@ -1,3 +1,4 @@
+//! Terms of given sizes, made from a seed.
 use spl_terms::{Items, Kind, Symbol, Term};
 use std::alloc::{AllocError, Global};
 

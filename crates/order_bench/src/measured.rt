@@ -1,3 +1,4 @@
+//! Terms of which it is known that they are small enough to be compared.
 ghost use Rattle.std.specs.Prelude.{◌≤◌};
 ghost use Rattle.spl_terms.specs.Terms.{term_symbols};
 

@@ -1,6 +1,7 @@
-ghost use Rattle.std.specs.Prelude.{◌≡◌, ◌≤◌, IfOk, OnOk, OnErr, IsErrOf, IfErr};
+//! Reading to the end and writing whole, over any source and any sink.
+ghost use Rattle.std.specs.Prelude.{◌≡◌, IfOk, OnOk, OnErr, IsErrOf, IfErr};
 ghost use Rattle.std.specs.Io.KnownBytes.{Appends};
-ghost use Rattle.outside_io.specs.Outside.{Rose, CameWhole, CamePast, CameWithin, WrotePrefix};
+ghost use Rattle.outside_io.specs.Outside.{CameWhole, CamePast, CameWithin, WrotePrefix, count_after, is_read_fault, is_write_fault};
 
 use crate::errors::{ReadError, WriteError};
 use crate::traits::{Sink, Source};
@@ -16,8 +17,8 @@ const PIECE: usize = 65_536;
 ///
 /// # Errors
 ///
-/// `Fault` only where the source's count of faults rose, and `Memory` where there was none: at
-/// most `limit` bytes were read, and they are lost. `TooLong` with this limit exactly where more
+/// `Fault` at the first read that fails, by which the source's count of faults rises by one, and at no
+/// other answer; `Memory` where there was none. Then at most `limit` bytes were read, and they are lost. `TooLong` with this limit exactly where more
 /// bytes came than it, which is found at the first byte past it.
 #[tactic(auto, using(crate::proofs::Streams::stream_laws))]
 pub fn read_all<S: Source>(
@@ -30,8 +31,7 @@ pub fn read_all<S: Source>(
     ensures limit { IfErr result (λ e. (other : _) → e ≡ ReadError.TooLong other → other ≡ limit) }
     ensures fault { IsErrOf result ReadError.Fault → CameWithin (S.left source.old) (S.left source.new) limit }
     ensures memory { IsErrOf result ReadError.Memory → CameWithin (S.left source.old) (S.left source.new) limit }
-    ensures rose { IsErrOf result ReadError.Fault → Rose (S.faults source.old) (S.faults source.new) }
-    ensures later { S.faults source.old ≤ S.faults source.new }
+    ensures faults { S.faults source.new ≡ count_after (is_read_fault result) (S.faults source.old) }
 {
     let mut bytes = Vec::new(alloc);
     let mut piece = vec![in alloc; 0u8; limit.saturating_add(1).min(PIECE)]?;
@@ -54,14 +54,14 @@ pub fn read_all<S: Source>(
 ///
 /// # Errors
 ///
-/// `Fault` only where the sink's count of faults rose, and `Memory` where the sink had none. Some
-/// first bytes were written, and none of the others.
+/// `Fault` at the first write that fails, by which the sink's count of faults rises by one, and at no
+/// other answer; `Memory` where the sink had none. Some first bytes were written, and none of the
+/// others.
 #[tactic(auto, using(crate::proofs::Streams::stream_laws))]
 pub fn write_all<K: Sink>(sink: &mut K, bytes: &[u8]) -> Result<(), WriteError>
     ensures whole { OnOk result (Appends (K.written sink.old) (K.written sink.new) bytes.now) }
     ensures part { OnErr result (WrotePrefix (K.written sink.old) (K.written sink.new) bytes.now) }
-    ensures rose { IsErrOf result WriteError.Fault → Rose (K.faults sink.old) (K.faults sink.new) }
-    ensures later { K.faults sink.old ≤ K.faults sink.new }
+    ensures faults { K.faults sink.new ≡ count_after (is_write_fault result) (K.faults sink.old) }
 {
     let mut at = 0;
     while at < bytes.len() {

@@ -1,3 +1,4 @@
+//! Why a read or a write gave nothing, or not all.
 ghost use Rattle.std.specs.Prelude.{◌≡◌};
 ghost use Rattle.outside_io.specs.declared.errors.ReadError.TheVariants as read;
 ghost use Rattle.outside_io.specs.declared.errors.WriteError.TheVariants as write;

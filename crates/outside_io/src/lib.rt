@@ -11,8 +11,6 @@ mod errors;
 mod memory;
 mod standard;
 mod sure;
-#[cfg(test)]
-mod tests;
 mod traits;
 
 pub use all::{read_all, write_all};

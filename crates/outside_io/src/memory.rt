@@ -1,7 +1,8 @@
-ghost use Rattle.std.specs.Prelude.{◌≡◌, ◌<◌, ◌≤◌, ◌+◌, ◌-◌, List, [], length, take, min, Some, slice_range, is_err, IfOk, OnErr, IsErrOf, IsTrue, ◌↔◌};
+//! A source and a sink in memory, some of whose calls fail as they are told.
+ghost use Rattle.std.specs.Prelude.{◌≡◌, ◌<◌, ◌≤◌, ◌+◌, ◌-◌, List, [], length, take, min, Some, slice_range, is_err, IfOk, IsErrOf, IsTrue, ◌↔◌};
 ghost use Rattle.std.specs.Io.{ReadsAtMost, WritesAtMost};
 ghost use Rattle.std.specs.Io.KnownBytes.{ReadConsumes, WriteAppends};
-ghost use Rattle.outside_io.specs.Outside.{Rose};
+ghost use Rattle.outside_io.specs.Outside.{count_after, is_write_fault};
 ghost use Rattle.outside_io.specs.Memory.{next_fails, one_more};
 
 use crate::errors::{Failed, WriteError};
@@ -40,7 +41,6 @@ impl Failing {
     fn next_fails(&mut self) -> bool
         ensures answer { result ≡ next_fails self.old }
         ensures after { self.new ≡ one_more self.old }
-        ensures later { self.old.faults ≤ self.new.faults }
     {
         self.made = self.made.saturating_add(1);
         let fails = self.fail.contains(&self.made);
@@ -113,8 +113,7 @@ impl Source for MemorySource {
         requires { 0 < length buf.old }
         ensures bound { ReadsAtMost result buf.new }
         ensures bytes { ReadConsumes (Some self.old.rest) (Some self.new.rest) result buf.new }
-        ensures later { self.old.calls.faults ≤ self.new.calls.faults }
-        ensures fault { OnErr result (Rose self.old.calls.faults self.new.calls.faults) }
+        ensures faults { self.new.calls.faults ≡ count_after (is_err result) self.old.calls.faults }
 
         // What this source says beyond any source.
         ensures fails { is_err result ≡ next_fails self.old.calls }
@@ -188,8 +187,7 @@ impl Sink for MemorySink {
         ensures some { IfOk result (λ n. 0 < n) }
         ensures bound { WritesAtMost result piece.now }
         ensures bytes { WriteAppends (Some self.old.taken) (Some self.new.taken) result piece.now }
-        ensures later { self.old.calls.faults ≤ self.new.calls.faults }
-        ensures fault { IsErrOf result WriteError.Fault → Rose self.old.calls.faults self.new.calls.faults }
+        ensures faults { self.new.calls.faults ≡ count_after (is_write_fault result) self.old.calls.faults }
 
         // What this sink says beyond any sink.
         ensures fails { IsErrOf result WriteError.Fault ↔ IsTrue (next_fails self.old.calls) }

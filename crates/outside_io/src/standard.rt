@@ -1,5 +1,6 @@
-ghost use Rattle.std.specs.Prelude.{◌≡◌, ◌≤◌};
-ghost use Rattle.outside_io.specs.Outside.{Rose};
+//! Adapters of the standard library's readers and writers.
+ghost use Rattle.std.specs.Prelude.{◌≡◌};
+ghost use Rattle.outside_io.specs.Outside.{next_count};
 
 use crate::errors::{Failed, WriteError};
 use crate::traits::{Sink, Source};
@@ -7,7 +8,8 @@ use std::io::{Read, Write};
 
 /// A source over a reader. It tells what the reader tells: of standard input, nothing.
 ///
-/// Each error of the reader, of whatever kind, is a fault, and is counted.
+/// Each error of the reader, of whatever kind, is a fault, and is counted. A call reads once: it
+/// doesn't try again. No contract can see that.
 #[derive(Drop)]
 pub struct StdSource<R> {
     inner: R,
@@ -43,7 +45,7 @@ impl<R: Read> Source for StdSource<R> {
 /// A sink over a writer. It tells what the writer tells: of standard output, nothing.
 ///
 /// Each error of the writer, of whatever kind, is a fault, and so is a write that takes nothing;
-/// both are counted.
+/// both are counted. A call writes once: it doesn't try again. No contract can see that.
 #[derive(Drop)]
 pub struct StdSink<W> {
     inner: W,
@@ -78,8 +80,7 @@ impl<W: Write> Sink for StdSink<W> {
 
 /// Counts one more fault; the count stays at the last value of `u64` once it is there.
 fn count_one(faults: &mut u64)
-    ensures rose { Rose faults.old faults.new }
-    ensures later { faults.old ≤ faults.new }
+    ensures { faults.new ≡ next_count faults.old }
 {
     *faults = faults.saturating_add(1);
 }

@@ -1,7 +1,8 @@
-ghost use Rattle.std.specs.Prelude.{ℕ, ◌<◌, ◌≤◌, List, length, Option, IfOk, OnErr, IsErrOf};
+//! What a source of bytes and a sink of bytes promise.
+ghost use Rattle.std.specs.Prelude.{◌≡◌, ℕ, ◌<◌, ◌≤◌, List, length, Option, IfOk, is_err};
 ghost use Rattle.std.specs.Io.{ReadsAtMost, WritesAtMost};
 ghost use Rattle.std.specs.Io.KnownBytes.{ReadConsumes, WriteAppends};
-ghost use Rattle.outside_io.specs.Outside.{Rose};
+ghost use Rattle.outside_io.specs.Outside.{count_after, is_write_fault};
 
 use crate::errors::{Failed, WriteError};
 
@@ -17,14 +18,13 @@ pub trait Source {
     ///
     /// # Errors
     ///
-    /// `Failed` where a read failed, which the count of faults shows: the bytes to come stay as
-    /// they were, and `buf` holds any bytes.
+    /// `Failed` where a read failed, by which alone the count of faults rises, and by one: the bytes
+    /// to come stay as they were, and `buf` holds any bytes.
     fn read(&mut self, buf: &mut [u8]) -> Result<usize, Failed>
         requires { 0 < length buf.old }
         ensures bound { ReadsAtMost result buf.new }
         ensures bytes { ReadConsumes (left self.old) (left self.new) result buf.new }
-        ensures later { faults self.old ≤ faults self.new }
-        ensures fault { OnErr result (Rose (faults self.old) (faults self.new)) };
+        ensures faults { faults self.new ≡ count_after (is_err result) (faults self.old) };
 }
 
 /// Takes bytes in order.
@@ -39,13 +39,12 @@ pub trait Sink {
     ///
     /// # Errors
     ///
-    /// `Fault` where a write failed or nothing was taken, which the count of faults shows, and
-    /// `Memory` where there was none. The bytes taken so far stay as they were.
+    /// `Fault` where a write failed or nothing was taken, by which alone the count of faults rises,
+    /// and by one, and `Memory` where there was none. The bytes taken so far stay as they were.
     fn write(&mut self, piece: &[u8]) -> Result<usize, WriteError>
         requires { 0 < length piece.now }
         ensures some { IfOk result (λ n. 0 < n) }
         ensures bound { WritesAtMost result piece.now }
         ensures bytes { WriteAppends (written self.old) (written self.new) result piece.now }
-        ensures later { faults self.old ≤ faults self.new }
-        ensures fault { IsErrOf result WriteError.Fault → Rose (faults self.old) (faults self.new) };
+        ensures faults { faults self.new ≡ count_after (is_write_fault result) (faults self.old) };
 }

@@ -9,8 +9,6 @@ mod extracting;
 mod marking;
 mod renumbering;
 mod searching;
-#[cfg(test)]
-mod tests;
 
 pub use extracting::extract;
 pub use searching::first_contradiction;

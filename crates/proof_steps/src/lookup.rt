@@ -1,3 +1,4 @@
+//! Lines, statements and parents by their numbers.
 ghost use Rattle.std.specs.Prelude.{◌≡◌};
 ghost use Rattle.std.specs.Option.{option_copied};
 ghost use Rattle.proof_steps.specs.Steps.{numbered};

@@ -1,3 +1,4 @@
+//! What resolution concludes.
 ghost use Rattle.std.specs.Prelude.{[], ◌≡◌, ◌<◌, ◌++◌, true, length, remove, is_some, option_map, IfOk, OnOk};
 ghost use Rattle.std.specs.Option.{option_copied};
 ghost use Rattle.spl_terms.specs.Clauses.{part_of, clause_symbols, in_order, FitsOrBig};

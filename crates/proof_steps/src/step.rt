@@ -1,3 +1,4 @@
+//! Statements, rules, steps and lines.
 use dep_sets::Deps;
 use spl_terms::{Clause, Items, Part, Spot};
 use spl_truth::Subst;

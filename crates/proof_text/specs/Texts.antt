@@ -9,6 +9,8 @@ use Rattle.spl_terms.specs.declared.atom.Atom.TheVariants.{Holds, Equal}
 use Rattle.spl_terms.specs.declared.clause.Part.{Part}
 use Rattle.spl_terms.specs.declared.clause.Part.TheVariants.{Constraint, Antecedent, Succedent}
 use Rattle.spl_terms.specs.declared.clause.Clause.{Clause}
+use Rattle.spl_terms.specs.declared.clause.Spot.{Spot}
+use Rattle.spl_truth.specs.declared.replace.Subst.{Subst}
 use Rattle.spl_symbols.specs.Symbols.{Declared}
 use Rattle.dep_sets.specs.declared.deps.Assumption.{Assumption}
 use Rattle.proof_steps.specs.declared.step.Rule.{Rule}
@@ -61,7 +63,10 @@ atom_text signature (Equal s t) = codes "equal(" ++ term_text signature s ++ cod
 
 -- constraint, antecedent and succedent
 abbrev pub clause_text : List Declared → Clause → List ℕ
-clause_text signature c = codes "cl(" ++ bracketed (atom_text signature) c.constraint ++ codes "," ++ bracketed (atom_text signature) c.antecedent ++ codes "," ++ bracketed (atom_text signature) c.succedent ++ codes ")"
+clause_text signature c =
+    codes "cl(" ++ bracketed (atom_text signature) c.constraint ++ codes ","
+    ++ bracketed (atom_text signature) c.antecedent ++ codes ","
+    ++ bracketed (atom_text signature) c.succedent ++ codes ")"
 
 -- ---- steps
 
@@ -98,14 +103,32 @@ place_text label number = label ++ decimal number
 abbrev pub terms_text : List Declared → List ℕ → List Term → List ℕ
 terms_text signature label terms = label ++ bracketed (term_text signature) terms
 
+-- the places of two atoms that are resolved, with the second one's part
+abbrev pub resolved_text : ℕ → Part → ℕ → List ℕ
+resolved_text i part j = place_text (codes "i:") i ++ codes ",part:" ++ part_text part ++ place_text (codes ",j:") j
+
+-- where a term is replaced
+abbrev pub spot_text : Spot → List ℕ
+spot_text spot = codes ",part:" ++ part_text spot.part ++ place_text (codes ",j:") spot.place ++ codes ",pos:" ++ bracketed decimal spot.path
+
+-- the places of two equations that are factored, and how each is read
+abbrev pub factored_text : ℕ → Bool → ℕ → Bool → List ℕ
+factored_text i i_right j j_right =
+    place_text (codes "i:") i ++ codes ",idir:" ++ direction_text i_right ++ place_text (codes ",j:") j ++ codes ",jdir:" ++ direction_text j_right
+
+-- the substitutions of two parents, and a comma
+abbrev pub substitutions_text : List Declared → Subst → Subst → List ℕ
+substitutions_text signature s t = terms_text signature (codes ",s:") s.terms ++ terms_text signature (codes ",t:") t.terms ++ codes ","
+
 -- the pairs of the rule, each with a comma after it
 abbrev pub pairs_text : List Declared → Rule → List ℕ
 pairs_text signature (Input number) = place_text (codes "no:") number ++ codes ","
-pairs_text signature (Resolve i part j s t) = place_text (codes "i:") i ++ codes ",part:" ++ part_text part ++ place_text (codes ",j:") j ++ terms_text signature (codes ",s:") s.terms ++ terms_text signature (codes ",t:") t.terms ++ codes ","
+pairs_text signature (Resolve i part j s t) = resolved_text i part j ++ substitutions_text signature s t
 pairs_text signature (Factor s) = terms_text signature (codes "s:") s.terms ++ codes ","
-pairs_text signature (Paramodulate i right spot s t) = place_text (codes "i:") i ++ codes ",dir:" ++ direction_text right ++ codes ",part:" ++ part_text spot.part ++ place_text (codes ",j:") spot.place ++ codes ",pos:" ++ bracketed decimal spot.path ++ terms_text signature (codes ",s:") s.terms ++ terms_text signature (codes ",t:") t.terms ++ codes ","
+pairs_text signature (Paramodulate i right spot s t) =
+    place_text (codes "i:") i ++ codes ",dir:" ++ direction_text right ++ spot_text spot ++ substitutions_text signature s t
 pairs_text signature (Reflex j s) = place_text (codes "j:") j ++ terms_text signature (codes ",s:") s.terms ++ codes ","
-pairs_text signature (EqFactor i i_right j j_right s) = place_text (codes "i:") i ++ codes ",idir:" ++ direction_text i_right ++ place_text (codes ",j:") j ++ codes ",jdir:" ++ direction_text j_right ++ terms_text signature (codes ",s:") s.terms ++ codes ","
+pairs_text signature (EqFactor i i_right j j_right s) = factored_text i i_right j j_right ++ terms_text signature (codes ",s:") s.terms ++ codes ","
 pairs_text signature (Assume side negated) = place_text (codes "side:") side ++ codes ",neg:" ++ negated_text negated ++ codes ","
 pairs_text signature CaseLeft = []
 pairs_text signature CaseRight = []
@@ -117,7 +140,10 @@ assumption_text a = decimal a.split ++ codes "-" ++ decimal a.side
 -- ---- lines
 
 abbrev pub line_text : List Declared → ℕ → Line → List ℕ
-line_text signature number l = codes "step(" ++ decimal number ++ codes "," ++ clause_text signature l.stated.clause ++ codes "," ++ rule_text l.step.rule ++ codes "," ++ bracketed decimal l.step.parents ++ codes ",[" ++ pairs_text signature l.step.rule ++ codes "dep:" ++ bracketed assumption_text l.stated.deps ++ codes "]).\n"
+line_text signature number l =
+    codes "step(" ++ decimal number ++ codes "," ++ clause_text signature l.stated.clause ++ codes ","
+    ++ rule_text l.step.rule ++ codes "," ++ bracketed decimal l.step.parents
+    ++ codes ",[" ++ pairs_text signature l.step.rule ++ codes "dep:" ++ bracketed assumption_text l.stated.deps ++ codes "]).\n"
 
 -- the lines, the first with this number
 abbrev pub lines_text : List Declared → ℕ → List Line → List ℕ

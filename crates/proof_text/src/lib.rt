@@ -6,8 +6,6 @@
 
 mod lines;
 mod lists;
-#[cfg(test)]
-mod tests;
 mod words;
 
 pub use lines::print_proof;

@@ -1,8 +1,8 @@
-ghost use Rattle.std.specs.Prelude.{◌≡◌, ◌<◌, ◌^◌, ◌++◌, length, OnOk};
-ghost use Rattle.proof_steps.specs.declared.step.Rule.{Rule};
-ghost use Rattle.proof_text.specs.Texts.{line_text, lines_text, pairs_text, proof_text};
+//! The text of a line and of the whole list.
+ghost use Rattle.std.specs.Prelude.{◌≡◌, ◌<◌, ◌^◌, ◌++◌, length, IfOk, OnOk};
+ghost use Rattle.proof_text.specs.Texts.{factored_text, line_text, lines_text, pairs_text, proof_text, resolved_text, spot_text, substitutions_text};
 
-use crate::lists::{push_assumptions, push_clause, push_numbers, push_terms};
+use crate::lists::{push_clause, push_list, push_terms};
 use crate::words::{
     push_bytes, push_direction, push_negated, push_number, push_part, push_place, push_rule,
 };
@@ -12,71 +12,69 @@ use spl_terms::{Part, Spot};
 use spl_truth::Subst;
 use std::alloc::{AllocError, Global};
 
-fn push_resolve(
+/// Appends the places of the two atoms that are resolved, from 0, with the second one's part.
+fn push_resolved(
     alloc: Global,
     out: &mut Vec<u8>,
-    signature: &Signature,
     i: u32,
     part: Part,
     j: u32,
-    s: &Subst,
-    t: &Subst,
 ) -> Result<(), AllocError>
-    ensures { OnOk result (out.new.items ≡ out.old.items ++ pairs_text signature.now (Rule.Resolve i part j s.now t.now)) }
+    ensures { OnOk result (out.new.items ≡ out.old.items ++ resolved_text i part j) }
 {
     push_place(alloc, out, b"i:", i)?;
     push_bytes(out, b",part:")?;
     push_part(out, part)?;
-    push_place(alloc, out, b",j:", j)?;
-    push_terms(alloc, out, signature, b",s:", s.terms.as_slice())?;
-    push_terms(alloc, out, signature, b",t:", t.terms.as_slice())?;
-    push_bytes(out, b",")
+    push_place(alloc, out, b",j:", j)
 }
 
-fn push_paramodulate(
+/// Appends where a term is replaced.
+fn push_spot(
     alloc: Global,
     out: &mut Vec<u8>,
     signature: &Signature,
-    i: u32,
-    right_to_left: bool,
     spot: &Spot,
-    s: &Subst,
-    t: &Subst,
 ) -> Result<(), AllocError>
-    ensures { OnOk result (out.new.items ≡ out.old.items ++ pairs_text signature.now (Rule.Paramodulate i right_to_left spot.now s.now t.now)) }
+    ensures { OnOk result (out.new.items ≡ out.old.items ++ spot_text spot.now) }
 {
-    push_place(alloc, out, b"i:", i)?;
-    push_bytes(out, b",dir:")?;
-    push_direction(out, right_to_left)?;
     push_bytes(out, b",part:")?;
     push_part(out, spot.part)?;
     push_place(alloc, out, b",j:", spot.place)?;
     push_bytes(out, b",pos:")?;
-    push_numbers(alloc, out, spot.path.as_slice())?;
-    push_terms(alloc, out, signature, b",s:", s.terms.as_slice())?;
-    push_terms(alloc, out, signature, b",t:", t.terms.as_slice())?;
-    push_bytes(out, b",")
+    push_list(alloc, out, signature, spot.path.as_slice())
 }
 
-fn push_eq_factor(
+/// Appends the places of the two equations that are factored, from 0, and how each is read.
+fn push_factored(
     alloc: Global,
     out: &mut Vec<u8>,
-    signature: &Signature,
     i: u32,
     i_right: bool,
     j: u32,
     j_right: bool,
-    s: &Subst,
 ) -> Result<(), AllocError>
-    ensures { OnOk result (out.new.items ≡ out.old.items ++ pairs_text signature.now (Rule.EqFactor i i_right j j_right s.now)) }
+    ensures { OnOk result (out.new.items ≡ out.old.items ++ factored_text i i_right j j_right) }
 {
     push_place(alloc, out, b"i:", i)?;
     push_bytes(out, b",idir:")?;
     push_direction(out, i_right)?;
     push_place(alloc, out, b",j:", j)?;
     push_bytes(out, b",jdir:")?;
-    push_direction(out, j_right)?;
+    push_direction(out, j_right)
+}
+
+/// Appends the substitutions of the two parents, each with its label, and a comma.
+fn push_substitutions(
+    alloc: Global,
+    out: &mut Vec<u8>,
+    signature: &Signature,
+    s: &Subst,
+    t: &Subst,
+) -> Result<(), AllocError>
+    ensures { OnOk result (out.new.items ≡ out.old.items ++ substitutions_text signature.now s.now t.now) }
+{
     push_terms(alloc, out, signature, b",s:", s.terms.as_slice())?;
+    push_terms(alloc, out, signature, b",t:", t.terms.as_slice())?;
     push_bytes(out, b",")
 }
 
@@ -95,7 +93,8 @@ fn push_pairs(
             push_bytes(out, b",")
         }
         Rule::Resolve { i, part, j, s, t } => {
-            push_resolve(alloc, out, signature, *i, *part, *j, s, t)
+            push_resolved(alloc, out, *i, *part, *j)?;
+            push_substitutions(alloc, out, signature, s, t)
         }
         Rule::Factor { s } => {
             push_terms(alloc, out, signature, b"s:", s.terms.as_slice())?;
@@ -107,7 +106,13 @@ fn push_pairs(
             spot,
             s,
             t,
-        } => push_paramodulate(alloc, out, signature, *i, *right_to_left, spot, s, t),
+        } => {
+            push_place(alloc, out, b"i:", *i)?;
+            push_bytes(out, b",dir:")?;
+            push_direction(out, *right_to_left)?;
+            push_spot(alloc, out, signature, spot)?;
+            push_substitutions(alloc, out, signature, s, t)
+        }
         Rule::Reflex { j, s } => {
             push_place(alloc, out, b"j:", *j)?;
             push_terms(alloc, out, signature, b",s:", s.terms.as_slice())?;
@@ -119,7 +124,11 @@ fn push_pairs(
             j,
             j_right,
             s,
-        } => push_eq_factor(alloc, out, signature, *i, *i_right, *j, *j_right, s),
+        } => {
+            push_factored(alloc, out, *i, *i_right, *j, *j_right)?;
+            push_terms(alloc, out, signature, b",s:", s.terms.as_slice())?;
+            push_bytes(out, b",")
+        }
         Rule::Assume { side, negated } => {
             push_place(alloc, out, b"side:", *side)?;
             push_bytes(out, b",neg:")?;
@@ -146,11 +155,11 @@ fn push_line(
     push_bytes(out, b",")?;
     push_rule(out, &line.step.rule)?;
     push_bytes(out, b",")?;
-    push_numbers(alloc, out, line.step.parents.as_slice())?;
+    push_list(alloc, out, signature, line.step.parents.as_slice())?;
     push_bytes(out, b",[")?;
     push_pairs(alloc, out, signature, &line.step.rule)?;
     push_bytes(out, b"dep:")?;
-    push_assumptions(alloc, out, line.stated.deps.as_slice())?;
+    push_list(alloc, out, signature, line.stated.deps.as_slice())?;
     push_bytes(out, b"]).\n")
 }
 
@@ -169,23 +178,24 @@ fn push_lines(
     Ok(())
 }
 
-/// Appends the text of the proof list: a head, one line a step with the numbers from 1, and an end.
+/// The bytes, and behind them the text of the proof list: a head, one line a step with the numbers from 1, and an end.
 ///
 /// Symbols are printed by their names in the signature; one that isn't there has no text.
 ///
 /// # Errors
 ///
-/// Only where there is no memory; a part of the text may have been appended.
+/// Only where there is no memory; the bytes are lost then.
 pub fn print_proof(
     alloc: Global,
-    out: &mut Vec<u8>,
+    mut out: Vec<u8>,
     signature: &Signature,
     lines: &[Line],
-) -> Result<(), AllocError>
+) -> Result<Vec<u8>, AllocError>
     requires { length lines.now < 2 ^ 32 }
-    ensures { OnOk result (out.new.items ≡ out.old.items ++ proof_text signature.now lines.now) }
+    ensures { IfOk result (λ text. text.items ≡ out.items ++ proof_text signature.now lines.now) }
 {
-    push_bytes(out, b"list_of_proof(spl).\n")?;
-    push_lines(alloc, out, signature, lines)?;
-    push_bytes(out, b"end_of_list.\n")
+    push_bytes(&mut out, b"list_of_proof(spl).\n")?;
+    push_lines(alloc, &mut out, signature, lines)?;
+    push_bytes(&mut out, b"end_of_list.\n")?;
+    Ok(out)
 }

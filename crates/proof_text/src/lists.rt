@@ -1,6 +1,8 @@
-ghost use Rattle.std.specs.Prelude.{◌≡◌, ◌++◌, ◌∷◌, OnOk};
+//! Lists in brackets, with commas between their members.
+ghost use Rattle.std.specs.Prelude.{◌≡◌, List, ℕ, ◌++◌, ◌∷◌, OnOk};
 ghost use Rattle.std.specs.List.{flat_map};
 ghost use Rattle.std.specs.Fmt.{decimal};
+ghost use Rattle.spl_symbols.specs.Symbols.{Declared};
 ghost use Rattle.proof_text.specs.Texts.{assumption_text, atom_text, bracketed, clause_text, commas, term_text, terms_text};
 
 use crate::words::{push_atom, push_bytes, push_number, push_term};
@@ -9,37 +11,120 @@ use spl_symbols::Signature;
 use spl_terms::{Atom, Clause, Term};
 use std::alloc::{AllocError, Global};
 
-/// The terms, each with a comma before it.
-fn push_more_terms(
+/// What stands in a list, and has a text under the names of a signature.
+pub trait Printed {
+    /// The text, with the names of these symbols.
+    ghost text: { List Declared → Self → List ℕ };
+
+    /// Appends the text.
+    fn push_text(
+        &self,
+        alloc: Global,
+        out: &mut Vec<u8>,
+        signature: &Signature,
+    ) -> Result<(), AllocError>
+        ensures { OnOk result (out.new.items ≡ out.old.items ++ text signature.now self.now) };
+}
+
+impl Printed for Term {
+    ghost text = { term_text };
+
+    fn push_text(
+        &self,
+        alloc: Global,
+        out: &mut Vec<u8>,
+        signature: &Signature,
+    ) -> Result<(), AllocError> {
+        push_term(alloc, out, signature, self)
+    }
+}
+
+impl Printed for Atom {
+    ghost text = { atom_text };
+
+    fn push_text(
+        &self,
+        alloc: Global,
+        out: &mut Vec<u8>,
+        signature: &Signature,
+    ) -> Result<(), AllocError> {
+        push_atom(alloc, out, signature, self)
+    }
+}
+
+impl Printed for u32 {
+    ghost text = { λ signature. decimal };
+
+    fn push_text(
+        &self,
+        alloc: Global,
+        out: &mut Vec<u8>,
+        _signature: &Signature,
+    ) -> Result<(), AllocError> {
+        push_number(alloc, out, u64::from(*self))
+    }
+}
+
+impl Printed for Assumption {
+    ghost text = { λ signature. assumption_text };
+
+    fn push_text(
+        &self,
+        alloc: Global,
+        out: &mut Vec<u8>,
+        _signature: &Signature,
+    ) -> Result<(), AllocError> {
+        push_number(alloc, out, u64::from(self.split))?;
+        push_bytes(out, b"-")?;
+        push_number(alloc, out, u64::from(self.side))
+    }
+}
+
+/// The texts of the items, each with a comma before it.
+fn push_more<T: Printed>(
     alloc: Global,
     out: &mut Vec<u8>,
     signature: &Signature,
-    terms: &[Term],
+    items: &[T],
 ) -> Result<(), AllocError>
-    ensures { OnOk result (out.new.items ≡ out.old.items ++ flat_map (λ t. 44 ∷ term_text signature.now t) terms.now) }
+    ensures { OnOk result (out.new.items ≡ out.old.items ++ flat_map (λ x. 44 ∷ T.text signature.now x) items.now) }
 {
-    for term in terms {
+    for item in items {
         push_bytes(out, b",")?;
-        push_term(alloc, out, signature, term)?;
+        item.push_text(alloc, out, signature)?;
     }
     Ok(())
 }
 
-fn push_term_with_commas(
+fn push_with_commas<T: Printed>(
     alloc: Global,
     out: &mut Vec<u8>,
     signature: &Signature,
-    terms: &[Term],
+    items: &[T],
 ) -> Result<(), AllocError>
-    ensures { OnOk result (out.new.items ≡ out.old.items ++ commas (term_text signature.now) terms.now) }
+    ensures { OnOk result (out.new.items ≡ out.old.items ++ commas (T.text signature.now) items.now) }
 {
-    match terms {
+    match items {
         [] => Ok(()),
         [first, rest @ ..] => {
-            push_term(alloc, out, signature, first)?;
-            push_more_terms(alloc, out, signature, rest)
+            first.push_text(alloc, out, signature)?;
+            push_more(alloc, out, signature, rest)
         }
     }
+}
+
+/// Appends the texts of the items in brackets, with commas between them.
+pub fn push_list<T: Printed>(
+    alloc: Global,
+    out: &mut Vec<u8>,
+    signature: &Signature,
+    items: &[T],
+) -> Result<(), AllocError>
+    ensures { OnOk result (out.new.items ≡ out.old.items ++ bracketed (T.text signature.now) items.now) }
+{
+    push_bytes(out, b"[")?;
+    push_with_commas(alloc, out, signature, items)?;
+    push_bytes(out, b"]")
 }
 
 /// Appends a label and the terms in brackets.
@@ -53,55 +138,7 @@ pub fn push_terms(
     ensures { OnOk result (out.new.items ≡ out.old.items ++ terms_text signature.now label.now terms.now) }
 {
     push_bytes(out, label)?;
-    push_bytes(out, b"[")?;
-    push_term_with_commas(alloc, out, signature, terms)?;
-    push_bytes(out, b"]")
-}
-
-/// The atoms, each with a comma before it.
-fn push_more_atoms(
-    alloc: Global,
-    out: &mut Vec<u8>,
-    signature: &Signature,
-    atoms: &[Atom],
-) -> Result<(), AllocError>
-    ensures { OnOk result (out.new.items ≡ out.old.items ++ flat_map (λ a. 44 ∷ atom_text signature.now a) atoms.now) }
-{
-    for atom in atoms {
-        push_bytes(out, b",")?;
-        push_atom(alloc, out, signature, atom)?;
-    }
-    Ok(())
-}
-
-fn push_atom_with_commas(
-    alloc: Global,
-    out: &mut Vec<u8>,
-    signature: &Signature,
-    atoms: &[Atom],
-) -> Result<(), AllocError>
-    ensures { OnOk result (out.new.items ≡ out.old.items ++ commas (atom_text signature.now) atoms.now) }
-{
-    match atoms {
-        [] => Ok(()),
-        [first, rest @ ..] => {
-            push_atom(alloc, out, signature, first)?;
-            push_more_atoms(alloc, out, signature, rest)
-        }
-    }
-}
-
-fn push_atoms(
-    alloc: Global,
-    out: &mut Vec<u8>,
-    signature: &Signature,
-    atoms: &[Atom],
-) -> Result<(), AllocError>
-    ensures { OnOk result (out.new.items ≡ out.old.items ++ bracketed (atom_text signature.now) atoms.now) }
-{
-    push_bytes(out, b"[")?;
-    push_atom_with_commas(alloc, out, signature, atoms)?;
-    push_bytes(out, b"]")
+    push_list(alloc, out, signature, terms)
 }
 
 /// Appends the three parts of the clause.
@@ -114,102 +151,10 @@ pub fn push_clause(
     ensures { OnOk result (out.new.items ≡ out.old.items ++ clause_text signature.now clause.now) }
 {
     push_bytes(out, b"cl(")?;
-    push_atoms(alloc, out, signature, clause.constraint.as_slice())?;
+    push_list(alloc, out, signature, clause.constraint.as_slice())?;
     push_bytes(out, b",")?;
-    push_atoms(alloc, out, signature, clause.antecedent.as_slice())?;
+    push_list(alloc, out, signature, clause.antecedent.as_slice())?;
     push_bytes(out, b",")?;
-    push_atoms(alloc, out, signature, clause.succedent.as_slice())?;
+    push_list(alloc, out, signature, clause.succedent.as_slice())?;
     push_bytes(out, b")")
-}
-
-/// The numbers, each with a comma before it.
-fn push_more_numbers(alloc: Global, out: &mut Vec<u8>, numbers: &[u32]) -> Result<(), AllocError>
-    ensures { OnOk result (out.new.items ≡ out.old.items ++ flat_map (λ n. 44 ∷ decimal n) numbers.now) }
-{
-    for number in numbers {
-        push_bytes(out, b",")?;
-        push_number(alloc, out, u64::from(*number))?;
-    }
-    Ok(())
-}
-
-fn push_number_with_commas(
-    alloc: Global,
-    out: &mut Vec<u8>,
-    numbers: &[u32],
-) -> Result<(), AllocError>
-    ensures { OnOk result (out.new.items ≡ out.old.items ++ commas decimal numbers.now) }
-{
-    match numbers {
-        [] => Ok(()),
-        [first, rest @ ..] => {
-            push_number(alloc, out, u64::from(*first))?;
-            push_more_numbers(alloc, out, rest)
-        }
-    }
-}
-
-/// Appends the numbers in brackets.
-pub fn push_numbers(alloc: Global, out: &mut Vec<u8>, numbers: &[u32]) -> Result<(), AllocError>
-    ensures { OnOk result (out.new.items ≡ out.old.items ++ bracketed decimal numbers.now) }
-{
-    push_bytes(out, b"[")?;
-    push_number_with_commas(alloc, out, numbers)?;
-    push_bytes(out, b"]")
-}
-
-fn push_assumption(
-    alloc: Global,
-    out: &mut Vec<u8>,
-    assumption: Assumption,
-) -> Result<(), AllocError>
-    ensures { OnOk result (out.new.items ≡ out.old.items ++ assumption_text assumption) }
-{
-    push_number(alloc, out, u64::from(assumption.split))?;
-    push_bytes(out, b"-")?;
-    push_number(alloc, out, u64::from(assumption.side))
-}
-
-/// The assumptions, each with a comma before it.
-fn push_more_assumptions(
-    alloc: Global,
-    out: &mut Vec<u8>,
-    assumptions: &[Assumption],
-) -> Result<(), AllocError>
-    ensures { OnOk result (out.new.items ≡ out.old.items ++ flat_map (λ a. 44 ∷ assumption_text a) assumptions.now) }
-{
-    for assumption in assumptions {
-        push_bytes(out, b",")?;
-        push_assumption(alloc, out, *assumption)?;
-    }
-    Ok(())
-}
-
-fn push_assumption_with_commas(
-    alloc: Global,
-    out: &mut Vec<u8>,
-    assumptions: &[Assumption],
-) -> Result<(), AllocError>
-    ensures { OnOk result (out.new.items ≡ out.old.items ++ commas assumption_text assumptions.now) }
-{
-    match assumptions {
-        [] => Ok(()),
-        [first, rest @ ..] => {
-            push_assumption(alloc, out, *first)?;
-            push_more_assumptions(alloc, out, rest)
-        }
-    }
-}
-
-/// Appends the assumptions in brackets.
-pub fn push_assumptions(
-    alloc: Global,
-    out: &mut Vec<u8>,
-    assumptions: &[Assumption],
-) -> Result<(), AllocError>
-    ensures { OnOk result (out.new.items ≡ out.old.items ++ bracketed assumption_text assumptions.now) }
-{
-    push_bytes(out, b"[")?;
-    push_assumption_with_commas(alloc, out, assumptions)?;
-    push_bytes(out, b"]")
 }

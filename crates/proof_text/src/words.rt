@@ -1,4 +1,5 @@
-ghost use Rattle.std.specs.Prelude.{◌≡◌, ◌++◌, [], ◌∷◌, ◌⊎◌, codes, OnOk, map};
+//! Words, numbers, names and terms.
+ghost use Rattle.std.specs.Prelude.{◌≡◌, ◌++◌, [], ◌∷◌, ◌⊎◌, codes, OnOk, OnErr, map};
 ghost use Rattle.std.specs.Fmt.{decimal};
 ghost use Rattle.proof_text.specs.Texts.{applied_text, atom_text, closing, direction_text, name_of, negated_text, part_text, place_text, rule_text, separator, term_text};
 
@@ -8,15 +9,25 @@ use spl_terms::{Atom, Part, Term};
 use std::alloc::{AllocError, Global};
 
 /// Appends the bytes.
+///
+/// # Errors
+///
+/// Only where there is no memory; nothing was appended then.
 pub fn push_bytes(out: &mut Vec<u8>, bytes: &[u8]) -> Result<(), AllocError>
-    ensures { OnOk result (out.new.items ≡ out.old.items ++ bytes.now) }
+    ensures ok { OnOk result (out.new.items ≡ out.old.items ++ bytes.now) }
+    ensures err { OnErr result (out.new.items ≡ out.old.items) }
 {
     out.extend_from_slice(bytes)
 }
 
 /// Appends the number in decimal digits.
+///
+/// # Errors
+///
+/// Only where there is no memory; nothing was appended then.
 pub fn push_number(alloc: Global, out: &mut Vec<u8>, number: u64) -> Result<(), AllocError>
-    ensures { OnOk result (out.new.items ≡ out.old.items ++ decimal number) }
+    ensures ok { OnOk result (out.new.items ≡ out.old.items ++ decimal number) }
+    ensures err { OnErr result (out.new.items ≡ out.old.items) }
 {
     let digits = number.to_string(alloc)?;
     push_bytes(out, digits.as_bytes())

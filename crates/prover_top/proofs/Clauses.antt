@@ -1,8 +1,8 @@
 -- What an outcome says of each answer.
-use Rattle.std.proofs.Common.{◌≡◌, ◌⊎◌, inl, inr, ℕ, ◌<◌, ◌≤◌, Bool, List, ◌++◌, length, Option, Some, None, refl, sym, ap, subst, ◌∙◌, arith, length-append}
+use Rattle.std.proofs.Common.{◌≡◌, ◌⊎◌, inl, inr, ℕ, ◌<◌, ◌≤◌, Bool, true, false, List, ◌++◌, length, Option, Some, None, refl, sym, ap, subst, ◌∙◌, arith, length-append}
 use Rattle.std.specs.Prelude.{IfSome, IsSomeAnd, Result, Ok, Err}
 use Rattle.std.proofs.lemmas.List.{append-nil}
-use Rattle.outside_io.specs.Outside.{Rose, CameWhole, CamePast}
+use Rattle.outside_io.specs.Outside.{Rose, CameWhole, CamePast, count_after}
 use Rattle.spl_symbols.specs.Symbols.{Declared}
 use Rattle.proof_steps.specs.declared.step.Line.{Line}
 use Rattle.split_tree.specs.declared.event.Limits.{Limits}
@@ -13,6 +13,7 @@ use Rattle.dfg_reader.specs.Problems.{problem}
 use Rattle.prover_top.specs.declared.answers.Answer.{Answer}
 use Rattle.prover_top.specs.declared.answers.Answer.TheVariants.{ProofFound, Completion, Rounds, Steps, Size, Words, Input, TooLong, ReadFault, Memory}
 use Rattle.prover_top.specs.Words.{limits_of}
+use Rattle.prover_top.specs.Answers.{is_fault}
 use Rattle.prover_top.specs.Endings.{IsContradicted, IsComplete, IsSpent, IsFull, IsLarge}
 use Rattle.prover_top.specs.Outcomes.{Call, most_bytes, IsInput, IsRefused, answer_for, answer_of, IsTried, IsCause}
 use Rattle.prover_top.specs.Reports.{IsOutcome, HasTable, HasProof, IsOfProving, IsUnlessMemory, IsTold}
@@ -56,6 +57,36 @@ module _ (call : Call) (table : Option State) (reported : Answer) (failed : Bool
 
   pub input_only : (fault : Fault) → reported ≡ Input fault → IsRefused call.before call.after fault
   input_only fault e = (cause_at (Input fault) e).1
+
+fault_cases : (call : Call) (answer : Answer) → call.faults_after ≡ count_after (is_fault answer) call.faults_before → (call.faults_after ≡ call.faults_before → ⊥) → answer ≡ ReadFault
+fault_cases call ProofFound h n = absurd (n h)
+fault_cases call (Completion node kept put_off) h n = absurd (n h)
+fault_cases call (Rounds count) h n = absurd (n h)
+fault_cases call (Steps limit) h n = absurd (n h)
+fault_cases call (Size symbols) h n = absurd (n h)
+fault_cases call Words h n = absurd (n h)
+fault_cases call (Input fault) h n = absurd (n h)
+fault_cases call TooLong h n = absurd (n h)
+fault_cases call ReadFault h n = refl
+fault_cases call Memory h n = absurd (n h)
+
+one_fault_at_most : (before after : ℕ) (fault : Bool) → after ≡ count_after fault before → (after ≡ before) ⊎ Rose before after
+one_fault_at_most before after false h = inl h
+one_fault_at_most before after true h = inr h
+
+module _ (call : Call) (table : Option State) (reported : Answer) (failed : Bool) (old new : Option (List ℕ)) (o : IsOutcome call table reported failed old new) where
+  told_or_memory : o.answer ≡ ReadFault → (reported ≡ o.answer) ⊎ (reported ≡ Memory) → IsUnlessMemory ReadFault reported
+  told_or_memory is (inl e) = inl (e ∙ is)
+  told_or_memory is (inr e) = inr e
+
+  -- where a failed read was counted, it is what is reported
+  pub fault_always : (call.faults_after ≡ call.faults_before → ⊥) → IsUnlessMemory ReadFault reported
+  fault_always n =
+      let is = fault_cases call o.answer o.counted n in
+      elim o.delivered [ inl d ↦ told_or_memory is d.same | inr d ↦ told_or_memory is (either call table reported failed old new o d.same) ]
+
+  pub read_count : (call.faults_after ≡ call.faults_before) ⊎ Rose call.faults_before call.faults_after
+  read_count = one_fault_at_most call.faults_before call.faults_after (is_fault o.answer) o.counted
 
 words_cases : (call : Call) (signature : List Declared) (table : Option State) (proof : List Line) (answer : Answer) → IsCause call signature table proof answer → limits_of call.words ≡ None → IsUnlessMemory Words answer
 words_cases call signature table proof ProofFound h e = absurd (no_fit _ _ h.fits e)
@@ -134,25 +165,25 @@ module _ (call : Call) (reported : Answer) (failed : Bool) (old new : Option (Li
       subst (IsCaused t) (sym (is_answer t o answer e not_memory)) (caused t of.legal)
 
   pub proof_only : (table : Option State) → IsOutcome call table reported failed old new → reported ≡ ProofFound → IsSomeAnd table HasProof
-  proof_only None o e = none_of ProofFound e (λ f. absurd (cc)) o (λ s p h. h.decided)
+  proof_only None o e = none_of ProofFound e (λ f. absurd (cc)) o (λ s p h. absurd h.decided)
   proof_only (Some t) o e =
       let h = tried_at t o in
       record { cause = cause_of t o ProofFound e (λ f. absurd (cc)); proof = h.1; proved = h.2.decided.1.proved e }
 
   pub completion_only : (table : Option State) → IsOutcome call table reported failed old new → (node kept put_off : ℕ) → reported ≡ Completion node kept put_off → IsSomeAnd table (IsComplete node kept put_off)
-  completion_only None o node kept put_off e = none_of (Completion node kept put_off) e (λ f. absurd (cc)) o (λ s p h. h.decided)
+  completion_only None o node kept put_off e = none_of (Completion node kept put_off) e (λ f. absurd (cc)) o (λ s p h. absurd h.decided)
   completion_only (Some t) o node kept put_off e = cause_of t o (Completion node kept put_off) e (λ f. absurd (cc))
 
   pub rounds_only : (table : Option State) → IsOutcome call table reported failed old new → (count : ℕ) → reported ≡ Rounds count → IsSomeAnd table (IsSpent count)
-  rounds_only None o count e = none_of (Rounds count) e (λ f. absurd (cc)) o (λ s p h. h.decided)
+  rounds_only None o count e = none_of (Rounds count) e (λ f. absurd (cc)) o (λ s p h. absurd h.decided)
   rounds_only (Some t) o count e = cause_of t o (Rounds count) e (λ f. absurd (cc))
 
   pub steps_only : (table : Option State) → IsOutcome call table reported failed old new → (limit : ℕ) → reported ≡ Steps limit → IsSomeAnd table (IsFull limit)
-  steps_only None o limit e = none_of (Steps limit) e (λ f. absurd (cc)) o (λ s p h. h.decided)
+  steps_only None o limit e = none_of (Steps limit) e (λ f. absurd (cc)) o (λ s p h. absurd h.decided)
   steps_only (Some t) o limit e = cause_of t o (Steps limit) e (λ f. absurd (cc))
 
   pub size_only : (table : Option State) → IsOutcome call table reported failed old new → (symbols : ℕ) → reported ≡ Size symbols → IsSomeAnd table (IsLarge symbols)
-  size_only None o symbols e = none_of (Size symbols) e (λ f. absurd (cc)) o (λ s p h. h.decided)
+  size_only None o symbols e = none_of (Size symbols) e (λ f. absurd (cc)) o (λ s p h. absurd h.decided)
   size_only (Some t) o symbols e = cause_of t o (Size symbols) e (λ f. absurd (cc))
 
 -- ---- told bytes
@@ -180,7 +211,7 @@ both r a b e f = let h : Ok a ≡ Err b = sym e ∙ f in absurd (cc)
 one_fault : (r : Result Problem Fault) (a b : Fault) → r ≡ Err a → r ≡ Err b → a ≡ b
 one_fault r a b e f = let h : Err a ≡ Err b = sym e ∙ f in cc
 
-module _ (call : Call) (signature : List Declared) (table : Option State) (proof : List Line) (bytes : List ℕ) (told : IsTold call.words call.before call.faults_before call.faults_after bytes) where
+module _ (call : Call) (signature : List Declared) (table : Option State) (proof : List Line) (bytes : List ℕ) (told : IsTold call bytes) where
   whole : (came : List ℕ) → CameWhole call.before call.after most_bytes came → came ≡ bytes
   whole came = came_told call.before call.after bytes came told.told
 
@@ -232,11 +263,11 @@ module _ (call : Call) (signature : List Declared) (table : Option State) (proof
   complete_cases read Memory small f h = tt
 
 module _ (call : Call) (table : Option State) (reported : Answer) (failed : Bool) (old new : Option (List ℕ)) (o : IsOutcome call table reported failed old new) where
-  pub input_always : (bytes : List ℕ) (fault : Fault) → IsTold call.words call.before call.faults_before call.faults_after bytes → length bytes ≤ most_bytes → problem bytes ≡ Err fault → IsUnlessMemory (Input fault) reported
+  pub input_always : (bytes : List ℕ) (fault : Fault) → IsTold call bytes → length bytes ≤ most_bytes → problem bytes ≡ Err fault → IsUnlessMemory (Input fault) reported
   input_always bytes fault told small f = let r = reported_cause call table reported failed old new o in input_cases call r.signature table r.proof bytes told fault reported small f r.cause
 
-  pub too_long_always : (bytes : List ℕ) → IsTold call.words call.before call.faults_before call.faults_after bytes → most_bytes < length bytes → IsUnlessMemory TooLong reported
+  pub too_long_always : (bytes : List ℕ) → IsTold call bytes → most_bytes < length bytes → IsUnlessMemory TooLong reported
   too_long_always bytes told long = let r = reported_cause call table reported failed old new o in long_cases call r.signature table r.proof bytes told reported long r.cause
 
-  pub complete : (bytes : List ℕ) (read : Problem) → IsTold call.words call.before call.faults_before call.faults_after bytes → length bytes ≤ most_bytes → problem bytes ≡ Ok read → IsOfProving reported
+  pub complete : (bytes : List ℕ) (read : Problem) → IsTold call bytes → length bytes ≤ most_bytes → problem bytes ≡ Ok read → IsOfProving reported
   complete bytes read told small f = let r = reported_cause call table reported failed old new o in complete_cases call r.signature table r.proof bytes told read reported small f r.cause

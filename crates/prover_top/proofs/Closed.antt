@@ -1,27 +1,25 @@
 -- At a leaf with nothing to choose each kept clause was worked off or split, and the inferences of those that were worked
 -- off are covered.
 use Rattle.std.specs.Prelude.{fold}
-use Rattle.std.proofs.Common.{◌≡◌, ◌⊎◌, inl, inr, ℕ, zero, suc, ◌+◌, ◌-◌, ◌<◌, ◌≤◌, Bool, true, false, cond, not, ◌&&◌, ◌||◌, eqb, List, [], ◌∷◌, ◌++◌, length, map, Option, Some, None, option_map, refl, sym, ap, ◌∙◌, subst, arith}
-use Rattle.std.specs.List.{slice_get}
-use Rattle.std.proofs.lemmas.Bool.{false≢true, eqb-true, and_parts, cases_Bool, cond-true, cond-false}
+use Rattle.std.proofs.Common.{◌≡◌, ◌⊎◌, inl, inr, ℕ, zero, suc, ◌+◌, ◌-◌, ◌<◌, ◌≤◌, Bool, true, false, cond, not, ◌&&◌, ◌||◌, List, [], ◌∷◌, ◌++◌, length, Option, Some, None, option_map, refl, sym, ap, ◌∙◌, subst, arith}
+use Rattle.std.proofs.lemmas.Bool.{false≢true, eqb-true, and_parts}
 use Rattle.std.proofs.lemmas.List.{map-append}
 use Rattle.spl_terms.specs.declared.clause.Part.{Part}
 use Rattle.spl_terms.specs.declared.clause.Clause.{Clause}
 use Rattle.spl_truth.specs.declared.picking.Candidate.{Candidate}
 use Rattle.spl_truth.specs.Picking.{better, preferred, is_fifth}
-use Rattle.proof_steps.specs.declared.step.Statement.{Statement}
 use Rattle.proof_steps.specs.declared.step.Line.{Line}
 use Rattle.proof_steps.specs.Steps.{numbered, resolution, from_two, of_two}
 use Rattle.proof_steps.specs.Checked.{resolution_of_lines, stated}
-use Rattle.proof_steps.specs.Covering.{IsSubsumedByOne, IsCoveredBy, AreCoveredBy}
+use Rattle.proof_steps.specs.Covering.{IsCoveredBy, AreCoveredBy}
 use Rattle.split_tree.specs.declared.event.Entry.{Entry}
 use Rattle.split_tree.specs.declared.event.Event.{Event}
-use Rattle.split_tree.specs.declared.event.Event.TheVariants.{Choose, Publish, Split, Activate}
+use Rattle.split_tree.specs.declared.event.Event.TheVariants.{Activate}
 use Rattle.split_tree.specs.Journal.{Setting, ledger, lines_of, nodes, nodes_of, steps}
 use Rattle.split_tree.specs.Paths.{stem, on_path}
-use Rattle.split_tree.specs.Facts.{listed, lists, kept, worked, split, chosen, chosen_by, activates, is_number}
+use Rattle.split_tree.specs.Facts.{listed, lists, kept, worked, split, chosen, activates, is_number}
 use Rattle.split_tree.specs.Picking.{is_passive, passing, passive, pick_at, choices, weighed}
-use Rattle.split_tree.specs.Legal.{IsAsked, IsLegalJournal, IsPartner, IsPair, IsListedAs, IsListed}
+use Rattle.split_tree.specs.Legal.{IsAsked, IsLegalJournal, IsPartner, IsPair, IsListed}
 use Rattle.split_tree.proofs.Homes.{listed_within}
 use Rattle.split_tree.proofs.Lists.{get_more, get_left}
 use Rattle.split_tree.proofs.Climb.{leaf_path}

@@ -1,5 +1,5 @@
 -- A table whose proving ended by a contradiction has a line that states one.
-use Rattle.std.proofs.Common.{◌≡◌, ◌≢◌, inl, inr, ℕ, zero, suc, ◌+◌, ◌-◌, ◌<◌, ◌≤◌, Bool, true, false, ◌&&◌, ◌||◌, List, [], ◌∷◌, ◌++◌, length, map, Option, Some, None, refl, sym, ap, ◌∙◌, subst, arith, length-append}
+use Rattle.std.proofs.Common.{◌≡◌, inl, inr, ℕ, zero, suc, ◌+◌, ◌-◌, ◌≤◌, Bool, true, false, ◌&&◌, ◌||◌, List, [], ◌∷◌, ◌++◌, length, Option, Some, None, refl, sym, ◌∙◌, subst, arith}
 use Rattle.std.specs.Prelude.{IsSomeAnd}
 use Rattle.std.specs.List.{slice_get, list_any}
 use Rattle.std.proofs.lemmas.Bool.{false≢true}
@@ -9,13 +9,12 @@ use Rattle.spl_terms.specs.Clauses.{no_atoms, is_empty, in_order, IsEmpty}
 use Rattle.dep_sets.specs.declared.deps.Assumption.{Assumption}
 use Rattle.proof_steps.specs.declared.step.Statement.{Statement}
 use Rattle.proof_steps.specs.declared.step.Line.{Line}
-use Rattle.proof_steps.specs.Steps.{numbered}
 use Rattle.proof_steps.specs.Checked.{IsContradiction}
 use Rattle.split_tree.specs.declared.event.Entry.{Entry}
-use Rattle.split_tree.specs.Journal.{Setting, ledger, lines_of, input_line, input_lines, last_line, steps}
+use Rattle.split_tree.specs.Journal.{Setting, ledger, lines_of, input_line, input_lines, last_line}
 use Rattle.split_tree.specs.State.{State}
 use Rattle.split_tree.proofs.Lists.{get_more, get_right}
-use Rattle.split_tree.specs.Ending.{no_assumptions, is_contradiction, states_contradiction, ends_contradictory, has_empty}
+use Rattle.split_tree.specs.Ending.{no_assumptions, is_contradiction, states_contradiction, has_empty}
 use Rattle.proof_extract.specs.Contradictions.{IsContradictory}
 use Rattle.prover_top.specs.Endings.{IsContradicted}
 

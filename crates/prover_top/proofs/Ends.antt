@@ -1,5 +1,5 @@
 -- The first event that ends a legal journal, and what it says of the table.
-use Rattle.std.proofs.Common.{◌≡◌, inl, inr, ℕ, zero, suc, ◌+◌, ◌<◌, ◌≤◌, Bool, true, false, cond, List, [], ◌∷◌, ◌++◌, length, Option, Some, None, refl, sym, ap, ◌∙◌, subst, arith, append-nil}
+use Rattle.std.proofs.Common.{◌≡◌, inl, inr, ℕ, zero, suc, ◌+◌, ◌<◌, ◌≤◌, Bool, true, false, List, [], ◌∷◌, ◌++◌, length, Option, Some, None, refl, sym, ap, ◌∙◌, subst, arith, append-nil}
 use Rattle.std.specs.Prelude.{IsSome, ⊤, if◌then◌else◌}
 use Rattle.std.specs.List.{AllByRecursion}
 use Rattle.std.proofs.lemmas.Bool.{false≢true}
@@ -9,7 +9,7 @@ use Rattle.split_tree.specs.declared.event.Event.{Event}
 use Rattle.split_tree.specs.declared.event.Event.TheVariants.{Claim, Choose, Publish, Split, Activate, Saturated, Spent, Big, Full, Stop}
 use Rattle.split_tree.specs.declared.event.End.{End}
 use Rattle.split_tree.specs.declared.event.End.TheVariants as ends
-use Rattle.split_tree.specs.Journal.{Setting, ledger, lines_of, nodes, nodes_of, steps}
+use Rattle.split_tree.specs.Journal.{Setting, ledger, nodes, steps}
 use Rattle.split_tree.specs.State.{State}
 use Rattle.split_tree.specs.Facts.{is_stop, kept}
 use Rattle.split_tree.specs.Ending.{end_by, or_else, first_end, has_empty, ends_contradictory, reason}
@@ -17,7 +17,7 @@ use Rattle.split_tree.specs.Legal.{IsLegal, IsLegalJournal}
 use Rattle.split_tree.proofs.Places.{claimed_within}
 use Rattle.prover_top.specs.declared.answers.Answer.{Answer}
 use Rattle.prover_top.specs.declared.answers.Answer.TheVariants as answers
-use Rattle.prover_top.specs.Endings.{EndsBy, IsPublished, IsContradicted, kept_among, kept_count, IsComplete, IsSpent, IsFull, IsLarge}
+use Rattle.prover_top.specs.Endings.{EndsBy, IsContradicted, kept_among, kept_count, IsComplete, IsSpent, IsFull, IsLarge}
 use Rattle.prover_top.specs.Outcomes.{answer_for, answer_of}
 use Rattle.prover_top.proofs.Closed.{closed}
 

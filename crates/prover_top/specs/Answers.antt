@@ -1,5 +1,5 @@
 -- The text and the exit status of each answer.
-use Rattle.std.specs.Prelude.{ℕ, Bool, if◌then◌else◌, List, ◌++◌, codes}
+use Rattle.std.specs.Prelude.{ℕ, Bool, true, false, if◌then◌else◌, List, ◌++◌, codes}
 use Rattle.std.specs.Fmt.{decimal}
 use Rattle.dfg_reader.specs.declared.fault.FaultKind.{FaultKind}
 use Rattle.dfg_reader.specs.declared.fault.FaultKind.TheVariants.{Unexpected, Undeclared, Arity, DeclaredTwice, SecondConjecture, OutsideProfile, LimitReached}
@@ -60,6 +60,19 @@ status_of (Input fault) = 4
 status_of TooLong = 5
 status_of ReadFault = 6
 status_of Memory = 8
+
+-- whether it is the answer of a failed read
+abbrev pub is_fault : Answer → Bool
+is_fault ProofFound = false
+is_fault (Completion node kept put_off) = false
+is_fault (Rounds count) = false
+is_fault (Steps limit) = false
+is_fault (Size symbols) = false
+is_fault Words = false
+is_fault (Input fault) = false
+is_fault TooLong = false
+is_fault ReadFault = true
+is_fault Memory = false
 
 -- 7 where a write failed
 abbrev pub reported_status : Bool → Answer → ℕ

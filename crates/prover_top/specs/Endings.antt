@@ -1,5 +1,5 @@
 -- The first event that ends a table's journal, and what it says.
-use Rattle.std.specs.Prelude.{◌≡◌, ◌⊎◌, ℕ, Bool, zero, suc, ◌+◌, true, ◌||◌, if◌then◌else◌, List, ◌∷◌, ◌++◌, Option, Some, None, IsSome}
+use Rattle.std.specs.Prelude.{◌≡◌, ◌⊎◌, ℕ, Bool, zero, suc, ◌+◌, true, ◌||◌, if◌then◌else◌, List, ◌∷◌, ◌++◌, None, IsSome}
 use Rattle.proof_steps.specs.declared.step.Line.{Line}
 use Rattle.proof_steps.specs.Covering.{AreCoveredBy}
 use Rattle.split_tree.specs.declared.event.Entry.{Entry}

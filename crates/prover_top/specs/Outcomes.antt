@@ -1,6 +1,7 @@
 -- Why a call gives its answer.
-use Rattle.std.specs.Prelude.{◌≡◌, ◌⊎◌, ℕ, List, Option, Some, None, IsSome, Ok, Err, ⊤}
-use Rattle.outside_io.specs.Outside.{Rose, CameWhole, CamePast}
+use Rattle.std.specs.Prelude.{◌≡◌, ◌⊎◌, ℕ, Bool, false, List, [], Option, Some, None, IsSome, IsSomeAnd, Ok, Err}
+use Rattle.std.specs.declared.result.Result.{Result}
+use Rattle.outside_io.specs.Outside.{Rose, CameWhole, CamePast, count_after}
 use Rattle.spl_terms.specs.declared.clause.Clause.{Clause}
 use Rattle.spl_truth.specs.Truth.{Refuted}
 use Rattle.spl_symbols.specs.Symbols.{Declared}
@@ -22,6 +23,7 @@ use Rattle.dfg_reader.specs.GroundClauses.{clauses}
 use Rattle.prover_top.specs.declared.answers.Answer.{Answer}
 use Rattle.prover_top.specs.declared.answers.Answer.TheVariants as answers
 use Rattle.prover_top.specs.Words.{limits_of}
+use Rattle.prover_top.specs.Answers.{is_fault}
 use Rattle.prover_top.specs.Endings.{kept_count}
 
 -- ---- what came in
@@ -33,6 +35,11 @@ pub record Call : Type 0 where
   pub after : Option (List ℕ)
   pub faults_before : ℕ
   pub faults_after : ℕ
+
+-- the call with these words that found a source so and left it so
+abbrev pub call_of : {S : Type 0} → (S → Option (List ℕ)) → (S → ℕ) → List (List ℕ) → S → S → Call
+call_of left faults words old new =
+    record { words = words; before = left old; after = left new; faults_before = faults old; faults_after = faults new }
 
 -- the most bytes that are read
 abbrev pub most_bytes : ℕ
@@ -54,6 +61,13 @@ pub record IsRefused (before after : Option (List ℕ)) (fault : ReadFault) : Ty
   pub faulty : problem bytes ≡ Err fault
 
 -- ---- what proving gave
+
+-- a table with an empty journal, for one worker, of these clauses within these limits
+pub record IsFresh (limits : Limits) (input : List Clause) (t : State) : Type 0 where
+  pub input_is : t.setting.input ≡ input
+  pub limits_are : t.setting.limits ≡ limits
+  pub one_worker : t.setting.workers ≡ 1
+  pub empty : t.past ≡ []
 
 -- one worker proved these clauses within these limits until a legal journal ended
 pub record IsTableOf (limits : Limits) (input : List Clause) (t : State) : Type 0 where
@@ -90,10 +104,9 @@ pub record IsAnswered (t : State) (proof : List Line) (answer : Answer) : Type 0
   pub is : (answer ≡ answer_of t) ⊎ (answer ≡ answers.Memory)
   pub proved : answer ≡ answers.ProofFound → IsProved t proof
 
--- the table of the input clauses and the answer that it gives; without a table only want of memory
+-- there is a table of the input clauses, and the answer is the one that it gives
 abbrev pub IsDecided : Limits → List Clause → Option State → List Line → Answer → Type 0
-IsDecided limits input None proof answer = answer ≡ answers.Memory
-IsDecided limits input (Some t) proof answer = IsTableOf limits input t × IsAnswered t proof answer
+IsDecided limits input table proof answer = IsSomeAnd table (λ t. IsTableOf limits input t × IsAnswered t proof answer)
 
 -- ---- the table of causes
 
@@ -122,3 +135,35 @@ IsCause call signature table proof (answers.Input fault) = Fits call × IsRefuse
 IsCause call signature table proof answers.TooLong = Fits call × CamePast call.before call.after most_bytes × (table ≡ None)
 IsCause call signature table proof answers.ReadFault = Fits call × Rose call.faults_before call.faults_after × (table ≡ None)
 IsCause call signature table proof answers.Memory = (table ≡ None) ⊎ IsTried call signature table proof answers.Memory
+
+-- ---- before proving and after it
+
+-- what stands before proving: a fresh table, or the answer of a call that makes none
+abbrev pub Start : Type 0
+Start = Result State Answer
+
+-- the words fit, a problem was read, and the table is that of its clauses
+pub record IsBegun (call : Call) (signature : List Declared) (t : State) : Type 0 where
+  pub limits : Limits
+  pub input : List Clause
+  pub fits : limits_of call.words ≡ Some limits
+  pub input_is : IsInput call.before call.after signature input
+  pub fresh : IsFresh limits input t
+
+abbrev pub IsStart : Call → List Declared → Start → Type 0
+IsStart call signature (Ok t) = IsBegun call signature t
+IsStart call signature (Err answer) = IsCause call signature None [] answer
+
+abbrev pub is_fault_start : Start → Bool
+is_fault_start (Ok t) = false
+is_fault_start (Err answer) = is_fault answer
+
+-- this came of words and reading, and a fault was counted where a read failed, and nowhere else
+pub record IsStarted (call : Call) (signature : List Declared) (start : Start) : Type 0 where
+  pub begun : IsStart call signature start
+  pub counted : call.faults_after ≡ count_after (is_fault_start start) call.faults_before
+
+-- a table that was made is there at the end, whatever the answer, and gives it; else the answer stays
+abbrev pub IsEnded : Start → Option State → List Line → Answer → Type 0
+IsEnded (Ok t) table proof answer = IsDecided t.setting.limits t.setting.input table proof answer
+IsEnded (Err before) table proof answer = (table ≡ None) × (answer ≡ before)

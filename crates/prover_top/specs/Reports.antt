@@ -1,5 +1,5 @@
 -- What a report says, clause by clause.
-use Rattle.std.specs.Prelude.{◌≡◌, ◌⊎◌, ℕ, Bool, List, codes, Option, Some, None, IsSome, Ok, Err, ⊤}
+use Rattle.std.specs.Prelude.{◌≡◌, ◌⊎◌, ℕ, Bool, List, codes, Option, Some, IsSome, Ok, Err, MatchResult, ⊤}
 use Rattle.spl_symbols.specs.Symbols.{Declared}
 use Rattle.proof_steps.specs.declared.step.Line.{Line}
 use Rattle.split_tree.specs.declared.event.Limits.{Limits}
@@ -12,46 +12,55 @@ use Rattle.dfg_reader.specs.Problems.{problem}
 use Rattle.dfg_reader.specs.GroundClauses.{clauses}
 use Rattle.prover_top.specs.declared.answers.Answer.{Answer}
 use Rattle.prover_top.specs.declared.answers.Answer.TheVariants as answers
-use Rattle.outside_io.specs.Outside.{Rose}
+use Rattle.outside_io.specs.Outside.{Rose, count_after}
 use Rattle.prover_top.specs.Words.{limits_of}
-use Rattle.prover_top.specs.Answers.{answer_text}
+use Rattle.prover_top.specs.Answers.{answer_text, is_fault}
 use Rattle.prover_top.specs.Deliveries.{IsDelivered}
 use Rattle.prover_top.specs.Endings.{IsContradicted}
-use Rattle.prover_top.specs.Outcomes.{Call, IsInput, IsProved, IsDecided, IsCause}
+use Rattle.prover_top.specs.Outcomes.{Call, IsInput, IsProved, IsFresh, IsCause, Start, IsEnded}
 
 -- ---- reading
 
--- the bytes spell a problem with these symbols, and its clauses gave the answer
-pub record IsSolved (limits : Limits) (bytes : List ℕ) (signature : List Declared) (table : Option State) (proof : List Line) (answer : Answer) : Type 0 where
+-- the bytes spell a problem with these symbols; there is a fresh table of its clauses, or there was no memory for it
+pub record IsSolved (limits : Limits) (bytes : List ℕ) (signature : List Declared) (start : Start) : Type 0 where
   pub read : Problem
   pub spelled : problem bytes ≡ Ok read
   pub symbols : signature ≡ read.signature
-  pub decided : IsDecided limits (clauses read.entries) table proof answer
+  pub started : MatchResult start (IsFresh limits (clauses read.entries)) (λ answer. answer ≡ answers.Memory)
 
 -- the bytes have this first fault
-pub record IsFaulty (bytes : List ℕ) (table : Option State) (answer : Answer) : Type 0 where
+pub record IsFaulty (bytes : List ℕ) (start : Start) : Type 0 where
   pub fault : ReadFault
   pub faulty : problem bytes ≡ Err fault
-  pub answer_is : answer ≡ answers.Input fault
-  pub no_table : table ≡ None
+  pub start_is : start ≡ Err (answers.Input fault)
 
--- there was no memory for the problem
-pub record IsUnread (table : Option State) (answer : Answer) : Type 0 where
-  pub answer_is : answer ≡ answers.Memory
-  pub no_table : table ≡ None
-
-abbrev pub IsRead : Limits → List ℕ → List Declared → Option State → List Line → Answer → Type 0
-IsRead limits bytes signature table proof answer = IsSolved limits bytes signature table proof answer ⊎ (IsFaulty bytes table answer ⊎ IsUnread table answer)
+abbrev pub IsRead : Limits → List ℕ → List Declared → Start → Type 0
+IsRead limits bytes signature start = IsSolved limits bytes signature start ⊎ (IsFaulty bytes start ⊎ (start ≡ Err answers.Memory))
 
 -- ---- the whole
 
--- an answer, its cause, and what was written for it; where memory ran out, the text of that may stand for it
+-- the text of the answer was written; where there was no memory to build it, the text of want of memory
+abbrev pub IsWritten : List Declared → List Line → Answer → Answer → Bool → Option (List ℕ) → Option (List ℕ) → Type 0
+IsWritten signature proof answer reported failed old new =
+    IsDelivered (answer_text signature proof answer) answer reported failed old new
+    ⊎ IsDelivered (codes "Out of memory.\n") answers.Memory reported failed old new
+
+-- what came of a start, and what was written for it
+pub record IsFinished (start : Start) (signature : List Declared) (table : Option State) (reported : Answer) (failed : Bool) (old new : Option (List ℕ)) : Type 0 where
+  pub proof : List Line
+  pub answer : Answer
+  pub ended : IsEnded start table proof answer
+  pub written : IsWritten signature proof answer reported failed old new
+
+-- an answer, its cause, whether a failed read was counted for it, and what was written for it; where memory ran out, the
+-- text of that may stand for it
 pub record IsOutcome (call : Call) (table : Option State) (reported : Answer) (failed : Bool) (old new : Option (List ℕ)) : Type 0 where
   pub signature : List Declared
   pub proof : List Line
   pub answer : Answer
   pub cause : IsCause call signature table proof answer
-  pub delivered : IsDelivered (answer_text signature proof answer) answer reported failed old new ⊎ IsDelivered (codes "Out of memory.\n") answers.Memory reported failed old new
+  pub counted : call.faults_after ≡ count_after (is_fault answer) call.faults_before
+  pub delivered : IsWritten signature proof answer reported failed old new
 
 -- ---- a table
 
@@ -92,8 +101,8 @@ IsUnlessMemory expected answer = (answer ≡ expected) ⊎ (answer ≡ answers.M
 -- ---- where the source tells its bytes and no read fails
 
 -- the words fit, the source tells these bytes, and no read failed
-pub record IsTold (words : List (List ℕ)) (before : Option (List ℕ)) (faults_before faults_after : ℕ) (bytes : List ℕ) : Type 0 where
+pub record IsTold (call : Call) (bytes : List ℕ) : Type 0 where
   pub limits : Limits
-  pub fits : limits_of words ≡ Some limits
-  pub told : before ≡ Some bytes
-  pub no_fault : Rose faults_before faults_after → ⊥
+  pub fits : limits_of call.words ≡ Some limits
+  pub told : call.before ≡ Some bytes
+  pub no_fault : Rose call.faults_before call.faults_after → ⊥

@@ -1,7 +1,9 @@
-ghost use Rattle.std.specs.Prelude.{◌≡◌, ◌⊎◌, ◌<◌, ◌≤◌, ◌^◌, ◌++◌, length, codes, OnOk, IfOk, IsTrue};
-ghost use Rattle.outside_io.specs.Outside.{Rose};
+//! The text of an answer, and what is reported once it was written.
+ghost use Rattle.std.specs.Prelude.{◌≡◌, ◌≢◌, ◌<◌, ◌^◌, ◌++◌, length, codes, OnOk, IfOk};
+ghost use Rattle.outside_io.specs.Outside.{count_after};
 ghost use Rattle.prover_top.specs.Answers.{found_text, completion_text, rounds_text, steps_text, size_text, kind_text, input_text, answer_text, reported_status};
-ghost use Rattle.prover_top.specs.Deliveries.{Wrote, IsDelivered};
+ghost use Rattle.prover_top.specs.Deliveries.{IsDelivered};
+ghost use Rattle.prover_top.specs.Reports.{IsWritten};
 
 use crate::answers::Answer;
 use dfg_reader::{FaultKind, ReadFault};
@@ -11,16 +13,12 @@ use proof_text::{print_proof, push_bytes, push_number};
 use spl_symbols::Signature;
 use std::alloc::{AllocError, Global};
 
-fn push_found(
-    alloc: Global,
-    out: &mut Vec<u8>,
-    signature: &Signature,
-    proof: &[Line],
-) -> Result<(), AllocError>
+fn found_text(alloc: Global, signature: &Signature, proof: &[Line]) -> Result<Vec<u8>, AllocError>
     requires { length proof.now < 2 ^ 32 }
-    ensures { OnOk result (out.new.items ≡ out.old.items ++ found_text signature.now proof.now) }
+    ensures { IfOk result (λ text. text.items ≡ found_text signature.now proof.now) }
 {
-    push_bytes(out, b"Proof found.\n")?;
+    let mut out = Vec::new(alloc);
+    push_bytes(&mut out, b"Proof found.\n")?;
     print_proof(alloc, out, signature, proof)
 }
 
@@ -95,18 +93,19 @@ fn push_input(alloc: Global, out: &mut Vec<u8>, fault: ReadFault) -> Result<(), 
     Ok(())
 }
 
-fn push_answer(
+/// Appends the text of an answer that is no proof: signature and proof don't matter for it.
+fn push_other(
     alloc: Global,
     out: &mut Vec<u8>,
-    signature: &Signature,
-    proof: &[Line],
+    _signature: &Signature,
+    _proof: &[Line],
     answer: Answer,
 ) -> Result<(), AllocError>
-    requires { length proof.now < 2 ^ 32 }
-    ensures { OnOk result (out.new.items ≡ out.old.items ++ answer_text signature.now proof.now answer) }
+    requires { answer ≢ Answer.ProofFound }
+    ensures { OnOk result (out.new.items ≡ out.old.items ++ answer_text _signature.now _proof.now answer) }
 {
     match answer {
-        Answer::ProofFound => push_found(alloc, out, signature, proof),
+        Answer::ProofFound => unreachable!(),
         Answer::Completion {
             node,
             kept,
@@ -123,6 +122,20 @@ fn push_answer(
     }
 }
 
+fn other_text(
+    alloc: Global,
+    signature: &Signature,
+    proof: &[Line],
+    answer: Answer,
+) -> Result<Vec<u8>, AllocError>
+    requires { answer ≢ Answer.ProofFound }
+    ensures { IfOk result (λ text. text.items ≡ answer_text signature.now proof.now answer) }
+{
+    let mut out = Vec::new(alloc);
+    push_other(alloc, &mut out, signature, proof, answer)?;
+    Ok(out)
+}
+
 fn text_of(
     alloc: Global,
     signature: &Signature,
@@ -132,9 +145,10 @@ fn text_of(
     requires { length proof.now < 2 ^ 32 }
     ensures { IfOk result (λ text. text.items ≡ answer_text signature.now proof.now answer) }
 {
-    let mut out = Vec::new(alloc);
-    push_answer(alloc, &mut out, signature, proof, answer)?;
-    Ok(out)
+    match answer {
+        Answer::ProofFound => found_text(alloc, signature, proof),
+        other => other_text(alloc, signature, proof, other),
+    }
 }
 
 /// What is reported of an answer once its text was written.
@@ -161,23 +175,14 @@ impl Delivery {
 
 fn write_text<K: Sink>(sink: &mut K, text: &[u8], answer: Answer) -> Delivery
     ensures delivered { IsDelivered text.now answer result.reported result.failed (K.written sink.old) (K.written sink.new) }
-    ensures failed { IsTrue result.failed → Rose (K.faults sink.old) (K.faults sink.new) }
-    ensures later { K.faults sink.old ≤ K.faults sink.new }
+    ensures counted { K.faults sink.new ≡ count_after result.failed (K.faults sink.old) }
 {
-    match write_all(sink, text) {
-        Ok(()) => Delivery {
-            reported: answer,
-            failed: false,
-        },
-        Err(WriteError::Fault) => Delivery {
-            reported: answer,
-            failed: true,
-        },
-        Err(WriteError::Memory) => Delivery {
-            reported: Answer::Memory,
-            failed: false,
-        },
-    }
+    let (reported, failed) = match write_all(sink, text) {
+        Ok(()) => (answer, false),
+        Err(WriteError::Fault) => (answer, true),
+        Err(WriteError::Memory) => (Answer::Memory, false),
+    };
+    Delivery { reported, failed }
 }
 
 /// Builds the text of the answer whole and writes it; where there is no memory to build it, the text of want of memory.
@@ -189,10 +194,8 @@ pub fn deliver<K: Sink>(
     answer: Answer,
 ) -> Delivery
     requires { length proof.now < 2 ^ 32 }
-    ensures delivered { IsDelivered (answer_text signature.now proof.now answer) answer result.reported result.failed (K.written sink.old) (K.written sink.new)
-        ⊎ IsDelivered (codes "Out of memory.\n") Answer.Memory result.reported result.failed (K.written sink.old) (K.written sink.new) }
-    ensures failed { IsTrue result.failed → Rose (K.faults sink.old) (K.faults sink.new) }
-    ensures later { K.faults sink.old ≤ K.faults sink.new }
+    ensures written { IsWritten signature.now proof.now answer result.reported result.failed (K.written sink.old) (K.written sink.new) }
+    ensures counted { K.faults sink.new ≡ count_after result.failed (K.faults sink.old) }
 {
     match text_of(alloc, signature, proof, answer) {
         Ok(text) => write_text(sink, text.as_slice(), answer),

@@ -4,8 +4,6 @@
 mod answers;
 mod delivering;
 mod proving;
-#[cfg(test)]
-mod tests;
 mod top;
 mod words;
 

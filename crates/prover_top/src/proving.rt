@@ -13,8 +13,8 @@ ghost use Rattle.prover_top.specs.Outcomes.{IsTableOf, IsProved, answer_of, IsAn
 use crate::answers::Answer;
 use proof_extract::{extract, first_contradiction};
 use proof_steps::Line;
-use spl_terms::{Clause, Items};
-use split_tree::{End, Limits, Table};
+use spl_terms::Items;
+use split_tree::{End, Table};
 use std::alloc::{AllocError, Global};
 use worker_cases::alone;
 
@@ -148,7 +148,9 @@ fn decide(alloc: Global, table: Table) -> Decided
     }
 }
 
-fn work(alloc: Global, mut table: Table) -> Decided
+/// Proves with one worker until there is a reason to end, and says what came of it. The table comes back in each case,
+/// also where memory runs out.
+pub fn work(alloc: Global, mut table: Table) -> Decided
     requires begun { table.past ≡ [] }
     requires worker { table.setting.workers ≡ 1 }
     ensures decided { IsDecided table.setting.limits table.setting.input result.table result.proof result.answer }
@@ -156,16 +158,4 @@ fn work(alloc: Global, mut table: Table) -> Decided
 {
     alone(alloc, &mut table);
     decide(alloc, table)
-}
-
-/// Proves the clauses within the limits, with one worker, and says what came of it.
-pub fn prove(alloc: Global, input: &[Clause], limits: Limits) -> Decided
-    requires few { length input.now ≤ 65536 }
-    ensures decided { IsDecided limits input.now result.table result.proof result.answer }
-    ensures short { length result.proof < 2 ^ 32 }
-{
-    match Table::start(alloc, input, limits, 1) {
-        Ok(table) => work(alloc, table),
-        Err(_) => without_table(alloc, Answer::Memory),
-    }
 }

@@ -1,10 +1,11 @@
 -- Each name is found at its own place, also after one more name.
-use Rattle.std.proofs.Common.{◌≡◌, ◌⊎◌, inl, inr, ℕ, zero, suc, ◌+◌, ◌<◌, ◌≤◌, Bool, true, false, not, cond, List, [], ◌∷◌, ◌++◌, length, Some, None, option_map, option_and_then, nat_lt, eq-eqb, length-append, arith, refl, sym, ap, ◌∙◌}
+use Rattle.std.proofs.Common.{◌≡◌, ◌⊎◌, inl, inr, ℕ, zero, suc, ◌+◌, ◌<◌, ◌≤◌, Bool, true, false, not, ◌&&◌, cond, List, [], ◌∷◌, ◌++◌, length, Some, None, option_map, option_and_then, nat_lt, eq-eqb, length-append, arith, refl, sym, ap, ◌∙◌}
 use Rattle.std.proofs.lemmas.Bool.{ltb-true, lt-ltb}
-use Rattle.std.specs.List.{slice_get, position_or_len}
+use Rattle.std.specs.List.{slice_get, position_or_len, list_all}
 use Rattle.std.specs.Str.{bytes_eq}
 use Rattle.spl_terms.specs.declared.term.Symbol.{Symbol}
-use Rattle.spl_symbols.specs.Symbols.{Declared, found, HasOwnNames}
+use Rattle.dfg_tokens.specs.Names.{is_name}
+use Rattle.spl_symbols.specs.Symbols.{Declared, found, HasOwnNames, AreNamed}
 use Rattle.spl_symbols.proofs.Added.{passed, there}
 
 bytes-same : (xs : List ℕ) → bytes_eq xs xs ≡ true
@@ -77,3 +78,14 @@ one_more_name ds x own new i d e =
 
 pub no_names : HasOwnNames []
 no_names i d e = absurd (cc)
+
+-- one more name that may be one
+pub one_more_named : (ds : List Declared) (d : Declared) → AreNamed ds → is_name d.name ≡ true → AreNamed (ds ++ d ∷ [])
+one_more_named [] d all e = ap (λ b. b && true) e
+one_more_named (x ∷ ds) d all e =
+    let rest = and_parts (is_name x.name) (list_all (λ y. is_name y.name) ds) all in
+    ap (λ b. b && list_all (λ y. is_name y.name) (ds ++ d ∷ [])) rest.0 ∙ one_more_named ds d rest.1 e
+  where
+    and_parts : (a b : Bool) → (a && b) ≡ true → (a ≡ true) × (b ≡ true)
+    and_parts true b h = (refl, h)
+    and_parts false b h = absurd (cc)

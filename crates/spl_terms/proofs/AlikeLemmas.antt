@@ -2,7 +2,6 @@
 use Rattle.std.proofs.Common.{◌≡◌, ℕ, Bool, true, false, ◌&&◌, List, [], ◌∷◌, ◌++◌, map, refl, sym, ap, ◌∙◌}
 use Rattle.std.specs.List.{flat_map}
 use Rattle.std.proofs.Math.Bool.{true-and}
-use Rattle.std.proofs.lemmas.Grind.{flat_map-append}
 use Rattle.std.proofs.lemmas.Bool.{false≢true}
 use Rattle.spl_terms.specs.declared.term.Symbol.{Symbol}
 use Rattle.spl_terms.specs.declared.term.Term.{Term, Var, App}
@@ -13,6 +12,7 @@ use Rattle.spl_terms.specs.declared.clause.Clause.{Clause}
 use Rattle.spl_terms.specs.Terms.{symbol_eq, all_pass, is_application, term_variables}
 use Rattle.spl_terms.specs.Clauses.{atom_variables, clause_variables}
 use Rattle.spl_terms.specs.Alike.{passing_variable, alike_step, alike, alike_terms, alike_atoms, alike_lists, alike_clauses}
+pub use Rattle.spl_terms.specs.VariableLaws.{variables-parts}
 use Rattle.spl_terms.proofs.TermLemmas.{term_symbols-App, term_symbols-positive, Each, term_induction, fold-Var, fold-App, and-parts, term_eq-Var-Var, term_eq-Var-App, term_eq-App-Var, term_eq-App-App}
 use Rattle.spl_terms.proofs.NumberLemmas.{term_variables-Var, term_variables-App}
 
@@ -72,11 +72,6 @@ pass-append p q (x ∷ xs) [] vs ws e = absurd (cc)
 pass-append p q (x ∷ xs) (y ∷ ys) vs ws e =
     let r : (p x y ≡ true) × (pass p xs ys ≡ true) = and-parts _ _ e in
     ap (λ b. q x y && b) (pass-append p q xs ys vs ws r.1) ∙ sym (and-assoc (q x y) (pass q xs ys) (pass q vs ws))
-
-pub variables-parts : (c : Clause) → clause_variables c ≡ flat_map atom_variables c.constraint ++ flat_map atom_variables c.antecedent ++ flat_map atom_variables c.succedent
-variables-parts c =
-    flat_map-append atom_variables (c.constraint ++ c.antecedent) c.succedent
-    ∙ ap (λ (l : List ℕ). l ++ flat_map atom_variables c.succedent) (flat_map-append atom_variables c.constraint c.antecedent)
 
 -- ---- where clauses are alike, another test of them is one of their variables
 

@@ -11,6 +11,10 @@ use Rattle.spl_terms.specs.declared.clause.Clause.{Clause}
 use Rattle.spl_terms.specs.Terms.{symbol_eq, term_eq, terms_eq, replace}
 use Rattle.spl_terms.specs.Clauses.{clause_variables, atom_eq, atoms_eq, clause_eq, replace_in_atom, replace_in, noted, firsts, place_in, number_in, at_lists, distinct, renumbered, in_order}
 use Rattle.spl_terms.specs.Alike.{alike, alike_terms, alike_atoms, alike_lists, alike_clauses, agree, correspond}
+use Rattle.spl_terms.specs.SameLaws.{or-left, or-right}
+use Rattle.spl_terms.specs.VariableLaws.{itself, eqb-sym, has, has-firsts, place-apart}
+pub use Rattle.spl_terms.specs.InOrderLaws.{renumbered-renumbered, renumbered-in_order}
+use Rattle.spl_terms.specs.TermLaws.{and-both}
 use Rattle.spl_terms.proofs.TermLemmas.{Each, term_induction, and-parts, term_eq-Var-Var, term_eq-Var-App, term_eq-App-Var, term_eq-App-App}
 use Rattle.spl_terms.proofs.NumberLemmas.{replace-Var, replace-App}
 use Rattle.spl_terms.proofs.ClauseLemmas.{clause_eq-true, clause_eq-same}
@@ -74,30 +78,6 @@ module _ (h k : ℕ → ℕ) where
   renames_clause c d = λ i. renames_list c.constraint d.constraint i && renames_list c.antecedent d.antecedent i && renames_list c.succedent d.succedent i
 
 -- ---- from a test that passes to another one
-
-abbrev has : ℕ → List ℕ → Bool
-has v = list_any (λ w. v == w)
-
-itself : (v : ℕ) → (v == v) ≡ true
-itself v = eq-eqb v v refl
-
-eqb-sym : (a b : ℕ) → (a == b) ≡ (b == a)
-eqb-sym a b = by_test (a == b) (b == a) refl refl
-  where
-    by_test : (x y : Bool) → (a == b) ≡ x → (b == a) ≡ y → x ≡ y
-    by_test true true e g = refl
-    by_test false false e g = refl
-    by_test true false e g = absurd (false≢true (sym g ∙ eq-eqb b a (sym (eqb-true a b e))))
-    by_test false true e g = absurd (false≢true (sym e ∙ eq-eqb a b (sym (eqb-true b a g))))
-
-or-left : (a b : Bool) → a ≡ true → (a || b) ≡ true
-or-left a b e = ap (λ c. c || b) e
-
-or-right : (a b : Bool) → b ≡ true → (a || b) ≡ true
-or-right a b e = ap (λ c. a || c) e ∙ or-true a
-
-and-both : (a b : Bool) → a ≡ true → b ≡ true → (a && b) ≡ true
-and-both a b e g = λ i. (e ∙ refl) i && g i
 
 pass-more : (p q : ℕ → ℕ → Bool) (xs ys : List ℕ) → pass p xs ys ≡ true → ((v w : ℕ) → has v xs ≡ true → has w ys ≡ true → p v w ≡ true → q v w ≡ true) → pass q xs ys ≡ true
 pass-more p q [] [] e h = refl
@@ -190,45 +170,6 @@ module _ (q : ℕ → ℕ → Bool) where
 
 -- ---- different variables have different places
 
-or-cases : (a b : Bool) → (a || b) ≡ true → (a ≡ true) ⊎ (b ≡ true)
-or-cases true b e = inl refl
-or-cases false b e = inr e
-
-has-noted : (v x : ℕ) (os : List ℕ) → has v os ≡ true → has v (noted os x) ≡ true
-has-noted v x os e = by_test (has x os)
-  where
-    by_test : (a : Bool) → has v (if a then os else os ++ x ∷ []) ≡ true
-    by_test true = e
-    by_test false = list_any-append (λ w. v == w) os (x ∷ []) ∙ or-left _ _ e
-
-noted-has : (v : ℕ) (os : List ℕ) → has v (noted os v) ≡ true
-noted-has v os = by_test (has v os) refl
-  where
-    by_test : (a : Bool) → has v os ≡ a → has v (if a then os else os ++ v ∷ []) ≡ true
-    by_test true e = e
-    by_test false e = list_any-append (λ w. v == w) os (v ∷ []) ∙ or-right _ _ (or-left (v == v) false (itself v))
-
-has-fold : (v : ℕ) (xs os : List ℕ) → has v os ≡ true → has v (fold noted os xs) ≡ true
-has-fold v [] os e = e
-has-fold v (x ∷ xs) os e = has-fold v xs (noted os x) (has-noted v x os e)
-
-has-firsts : (v : ℕ) (xs os : List ℕ) → has v xs ≡ true → has v (fold noted os xs) ≡ true
-has-firsts v [] os e = absurd (cc)
-has-firsts v (x ∷ xs) os e = elim (or-cases (v == x) (has v xs) e) [
-  | inl here ↦ has-fold v xs (noted os x) (subst (λ (y : ℕ). has v (noted os y) ≡ true) (eqb-true v x here) (noted-has v os))
-  | inr there ↦ has-firsts v xs (noted os x) there
-]
-
-place-apart : (os : List ℕ) (v w : ℕ) → has v os ≡ true → place_in os v ≡ place_in os w → v ≡ w
-place-apart [] v w e p = absurd (cc)
-place-apart (x ∷ os) v w e p = by_test (x == v) (x == w) refl refl p (λ h q. place-apart os v w h q)
-  where
-    by_test : (a b : Bool) → (x == v) ≡ a → (x == w) ≡ b → cond (not a) (1 + place_in os v) 0 ≡ cond (not b) (1 + place_in os w) 0 → (has v os ≡ true → place_in os v ≡ place_in os w → v ≡ w) → v ≡ w
-    by_test true true f g q more = sym (eqb-true x v f) ∙ eqb-true x w g
-    by_test true false f g q more = absurd (omega arith)
-    by_test false true f g q more = absurd (omega arith)
-    by_test false false f g q more = more (ap (λ b. b || has v os) (sym (eqb-sym v x ∙ f)) ∙ e) (omega arith)
-
 apart : (xs : List ℕ) → Apart (place_in (firsts xs)) xs
 apart xs v w e p = place-apart (firsts xs) v w (has-firsts v xs [] e) p
 
@@ -264,39 +205,5 @@ module _ (c d : Clause) where
       (sym (renames_clause (number_in c) (number_in d) c d) ∙ clause_eq-same (renumbered c) (renumbered d) e)
 
 pub ruleset variant_laws = (variant-equal, equal-variant)
-
--- ---- what is renumbered stays so
-
-same_terms : (ts : List Term) → Each (λ t. replace (λ v. Var v) t ≡ t) ts → map (replace (λ v. Var v)) ts ≡ ts
-same_terms [] each = refl
-same_terms (t ∷ ts) each = λ i. each.0 i ∷ same_terms ts each.1 i
-
-same_term : (t : Term) → replace (λ v. Var v) t ≡ t
-same_term =
-    term_induction (λ t. replace (λ v. Var v) t ≡ t)
-    (λ v. replace-Var (λ v. Var v) v)
-    (λ f ts each. replace-App (λ v. Var v) f ts ∙ ap (App f) (same_terms ts each))
-
-all_same : (ts : List Term) → map (replace (λ v. Var v)) ts ≡ ts
-all_same [] = refl
-all_same (t ∷ ts) = λ i. same_term t i ∷ all_same ts i
-
-same_atoms : (as' : List Atom) → map (replace_in_atom (λ v. Var v)) as' ≡ as'
-same_atoms [] = refl
-same_atoms (Holds p ts ∷ as') = λ i. Holds p (all_same ts i) ∷ same_atoms as' i
-same_atoms (Equal s t ∷ as') = λ i. Equal (same_term s i) (same_term t i) ∷ same_atoms as' i
-
-pub same_clause : (c : Clause) → replace_in (λ v. Var v) c ≡ c
-same_clause c = λ i. record { constraint = same_atoms c.constraint i; antecedent = same_atoms c.antecedent i; succedent = same_atoms c.succedent i }
-
-pub renumbered-renumbered : (c : Clause) → renumbered (renumbered c) ≡ renumbered c
-renumbered-renumbered c =
-    variant-equal (renumbered c) c
-    (variant_by (renumbered c) c (λ v. v) (number_in c) (λ v w _ p. p) (apart (clause_variables c))
-    (sym (renames_clause (λ v. v) (number_in c) (renumbered c) c)
-    ∙ clause_eq-same (replace_in (λ v. Var v) (renumbered c)) (renumbered c) (same_clause (renumbered c))))
-
-pub renumbered-in_order : (c : Clause) → renumbered (in_order c) ≡ in_order c
-renumbered-in_order c = renumbered-renumbered (at_lists distinct c)
 
 pub ruleset order_laws = (renumbered-in_order)

@@ -1,5 +1,12 @@
 pub mod formers
 pub mod Lists
+pub mod ListLaws
 pub mod Terms
+pub mod TermLaws
 pub mod Clauses
+pub mod Hashes
+pub mod SameLaws
+pub mod VariableLaws
+pub mod InOrder
+pub mod InOrderLaws
 pub mod Alike

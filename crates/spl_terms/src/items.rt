@@ -122,9 +122,10 @@ impl<T: Drop> Items<T> {
         Ok(())
     }
 
-    /// Moves the items of `more` to the end.
+    /// Moves the items of `more` to the end; on want of memory the list is as before, and `more` is dropped.
     pub fn push_all(&mut self, more: Items<T>) -> Result<(), AllocError>
-        ensures { OnOk result (self.new ≡ self.old ++ more) }
+        ensures ok { OnOk result (self.new ≡ self.old ++ more) }
+        ensures err { OnErr result (self.new ≡ self.old) }
     {
         let Items { mut items } = more;
         self.items.append(&mut items)

@@ -12,75 +12,19 @@ use Rattle.spl_terms.specs.declared.clause.Part.TheVariants.{Constraint, Anteced
 use Rattle.spl_terms.specs.declared.clause.Clause.{Clause}
 use Rattle.spl_terms.specs.Terms.{replace}
 use Rattle.spl_terms.specs.Clauses.{is_same, replace_in_atom, part_of}
-use Rattle.spl_terms.proofs.TermLemmas.{Each, term_induction, symbol_eq-refl, term_eq-refl, terms_eq-refl}
+use Rattle.spl_terms.specs.InOrderLaws.{replace_in_atom-itself, replace_in-itself}
+pub use Rattle.spl_terms.specs.SameLaws.{same_self, same_turned, same_joined}
 use Rattle.spl_truth.specs.Truth.{apply}
-use Rattle.spl_truth.specs.Redundancy.{MapsInto, Subsumes, is_contained, is_subclause}
-use Rattle.spl_truth.proofs.Replacing.{replace-Var, replace-App, and_parts}
-use Rattle.spl_truth.proofs.Same.{flipped, same_cases}
+use Rattle.spl_truth.specs.Redundancy.{MapsApart, Subsumes, is_contained, is_subclause}
+use Rattle.spl_truth.proofs.Replacing.{and_parts}
 
 -- ---- each variable replaced by itself
 
 abbrev itself : ℕ → Term
 itself v = Var v
 
-replaced_each : (ts : List Term) → Each (λ t. replace itself t ≡ t) ts → map (replace itself) ts ≡ ts
-replaced_each [] each = refl
-replaced_each (t ∷ ts) each = let h : replace itself t ≡ t = each.0 in let k : map (replace itself) ts ≡ ts = replaced_each ts each.1 in λ i. h i ∷ k i
-
-replaced_self : (t : Term) → replace itself t ≡ t
-replaced_self = term_induction (λ t. replace itself t ≡ t) (λ v. replace-Var itself v) (λ f ts each. replace-App itself f ts ∙ ap (App f) (replaced_each ts each))
-
-terms_self : (ts : List Term) → map (replace itself) ts ≡ ts
-terms_self [] = refl
-terms_self (t ∷ ts) = let h : replace itself t ≡ t = replaced_self t in let k : map (replace itself) ts ≡ ts = terms_self ts in λ i. h i ∷ k i
-
-atom_self : (a : Atom) → replace_in_atom itself a ≡ a
-atom_self (Holds p ts) = ap (Holds p) (terms_self ts)
-atom_self (Equal s t) = let h = replaced_self s in let k = replaced_self t in λ i. Equal (h i) (k i)
-
-atoms_self : (as' : List Atom) → map (replace_in_atom itself) as' ≡ as'
-atoms_self [] = refl
-atoms_self (a ∷ as') = let h : replace_in_atom itself a ≡ a = atom_self a in let k : map (replace_in_atom itself) as' ≡ as' = atoms_self as' in λ i. h i ∷ k i
-
 pub applied_none : (c : Clause) → apply [] c ≡ c
-applied_none c =
-    let f = atoms_self c.constraint in
-    let g = atoms_self c.antecedent in
-    let h = atoms_self c.succedent in
-    λ i. record { constraint = f i; antecedent = g i; succedent = h i }
-
--- ---- being the same
-
-pub same_self : (a : Atom) → is_same a a ≡ true
-same_self (Holds p ts) = simp (symbol_eq-refl, terms_eq-refl)
-same_self (Equal s t) = simp term_eq-refl
-
-or_right : (b : Bool) → (b || true) ≡ true
-or_right true = refl
-or_right false = refl
-
-same_flipped : (a : Atom) → is_same a (flipped a) ≡ true
-same_flipped (Holds p ts) = simp (symbol_eq-refl, terms_eq-refl)
-same_flipped (Equal s t) = simp (term_eq-refl, or_right)
-
-flipped_twice : (a : Atom) → flipped (flipped a) ≡ a
-flipped_twice (Holds p ts) = refl
-flipped_twice (Equal s t) = refl
-
-pub same_turned : (a b : Atom) → is_same a b ≡ true → is_same b a ≡ true
-same_turned a b e = elim (same_cases a b e) [
-  | inl h ↦ subst (λ x. is_same x a ≡ true) h (same_self a)
-  | inr h ↦ subst (λ x. is_same x a ≡ true) h (subst (λ y. is_same (flipped a) y ≡ true) (flipped_twice a) (same_flipped (flipped a)))
-]
-
-pub same_joined : (a b c : Atom) → is_same a b ≡ true → is_same b c ≡ true → is_same a c ≡ true
-same_joined a b c e f = elim (same_cases a b e) [
-  | inl h ↦ subst (λ x. is_same x c ≡ true) (sym h) f
-  | inr h ↦ elim (same_cases b c f) [
-    | inl k ↦ subst (λ x. is_same a x ≡ true) k e
-    | inr k ↦ subst (λ x. is_same a x ≡ true) (sym (flipped_twice a) ∙ ap flipped h ∙ k) (same_self a)
-  ]
-]
+applied_none c = replace_in-itself c
 
 equally_true : (x y : Bool) → (x ≡ true → y ≡ true) → (y ≡ true → x ≡ true) → x ≡ y
 equally_true true y h k = sym (h refl)
@@ -217,13 +161,13 @@ get_within (x ∷ xs) (suc k) h = get_within xs k (omega (arith, h))
 in_order_or : (k l : ℕ) → (k < l → ⊥) → (l < k → ⊥) → k ≡ l
 in_order_or k l h i = omega (arith, h, i)
 
-contained_maps : (as' bs : List Atom) → is_contained as' bs ≡ true → MapsInto itself as' bs
+contained_maps : (as' bs : List Atom) → is_contained as' bs ≡ true → MapsApart itself as' bs
 unfolding place_for
 contained_maps as' bs e = record {
   place = λ k. place_for as' bs k (slice_get as' k);
   same = λ k a h.
       let w = placed as' bs k a e h in
-      some_there (λ b. is_same (replace_in_atom itself a) b ≡ true) (slice_get bs (place_for as' bs k (slice_get as' k))) w.b (ap (λ o. slice_get bs (place_for as' bs k o)) h ∙ w.found) (subst (λ x. is_same x w.b ≡ true) (sym (atom_self a)) w.same);
+      some_there (λ b. is_same (replace_in_atom itself a) b ≡ true) (slice_get bs (place_for as' bs k (slice_get as' k))) w.b (ap (λ o. slice_get bs (place_for as' bs k o)) h ∙ w.found) (subst (λ x. is_same x w.b ≡ true) (sym (replace_in_atom-itself a)) w.same);
   apart = λ k l hk hl same.
       let ak = get_within as' k hk in
       let al = get_within as' l hl in
@@ -234,7 +178,7 @@ contained_maps as' bs e = record {
 pub subclause_subsumes : (c d : Clause) → is_subclause c d ≡ true → Subsumes c d
 subclause_subsumes c d e = record { by = itself; each = parts }
   where
-    parts : (part : Part) → MapsInto itself (part_of c part) (part_of d part)
+    parts : (part : Part) → MapsApart itself (part_of c part) (part_of d part)
     parts Constraint = contained_maps c.constraint d.constraint (and_parts _ _ (and_parts _ _ e).0).0
     parts Antecedent = contained_maps c.antecedent d.antecedent (and_parts _ _ (and_parts _ _ e).0).1
     parts Succedent = contained_maps c.succedent d.succedent (and_parts _ _ e).1

@@ -1,13 +1,14 @@
 -- The order on terms of Knuth and Bendix (1970), with weight 1 for each symbol and each variable (Weidenbach 2001, the
 -- section on orderings). The precedence is this project's own.
-use Rattle.std.specs.Prelude.{ℕ, Bool, false, ◌&&◌, ◌||◌, ◌==◌, nat_lt, nat_le, if◌then◌else◌, List, [], ◌∷◌, length, map, count_by}
+use Rattle.std.specs.Prelude.{ℕ, Bool, false, not, ◌&&◌, ◌||◌, ◌==◌, nat_lt, nat_le, if◌then◌else◌, List, [], ◌∷◌, length, map, count_by}
 use Rattle.std.specs.List.{list_all}
 use Rattle.spl_terms.specs.declared.term.Kind.{Kind}
 use Rattle.spl_terms.specs.declared.term.Kind.TheVariants.{Function, Predicate, Sort}
 use Rattle.spl_terms.specs.declared.term.Symbol.{Symbol}
 use Rattle.spl_terms.specs.declared.term.Term.{Term, App, Term-F, out-Term, para-Term}
 use Rattle.spl_terms.specs.declared.term.Term.TheOpen as layer
-use Rattle.spl_terms.specs.Terms.{term_symbols, term_variables, term_eq, symbol_eq}
+use Rattle.spl_terms.specs.Terms.{term_symbols, term_variables, term_eq, symbol_eq, replace}
+use Rattle.spl_truth.specs.Truth.{entry}
 
 -- ---- the precedence
 
@@ -67,3 +68,13 @@ greater_step (layer.App f ps) t = by_weight (App f (map (λ p. p.0) ps)) t (is_g
 -- head of s is greater; or the heads are the same too and the first argument of s that differs is greater
 abbrev pub is_greater : Term → Term → Bool
 is_greater = para-Term (Term → Bool) greater_step
+
+-- ---- below
+
+-- less, or the same term
+abbrev pub is_below : Term → Term → Bool
+is_below l r = is_greater r l || term_eq l r
+
+-- the first isn't below the second once the variables have their entries: it is greater, or the two can't be compared
+abbrev pub is_not_below : List Term → Term → Term → Bool
+is_not_below u l r = not (is_below (replace (entry u) l) (replace (entry u) r))

@@ -18,17 +18,32 @@ has_equal_sides (Equal s t) = term_eq s t
 abbrev pub is_tautology : Clause → Bool
 is_tautology c = list_any (λ a. list_any (is_same a) c.antecedent || list_any (is_same a) c.constraint || has_equal_sides a) c.succedent
 
--- each atom becomes, where the variables are replaced, the same as the atom at its place there; different atoms have
--- different places
-pub record MapsInto (by : ℕ → Term) (atoms into : List Atom) : Type 0 where
+-- ---- mapping lists of atoms
+
+-- each atom becomes, where the variables are replaced, the same as one of the others; two may meet in one
+abbrev pub Maps : (by : ℕ → Term) (atoms into : List Atom) → Type 0
+Maps by atoms into = (k : ℕ) (a : Atom) → slice_get atoms k ≡ Some a → list_any (is_same (replace_in_atom by a)) into ≡ true
+
+-- each atom becomes the same as the one at its place there; different atoms have different places
+pub record MapsApart (by : ℕ → Term) (atoms into : List Atom) : Type 0 where
   pub place : ℕ → ℕ
   pub same : (k : ℕ) (a : Atom) → slice_get atoms k ≡ Some a → IsSomeAnd (slice_get into (place k)) (λ b. is_same (replace_in_atom by a) b ≡ true)
   pub apart : (k l : ℕ) → k < length atoms → l < length atoms → place k ≡ place l → k ≡ l
 
--- one substitution maps each part of c into that part of d
+-- ---- subsumption
+
+-- the relation holds of each part of c and that part of d
+abbrev pub EachPart : (List Atom → List Atom → Type 0) → Clause → Clause → Type 0
+EachPart R c d = (part : Part) → R (part_of c part) (part_of d part)
+
+-- one substitution maps each part of c into that part of d, different places to different places
 pub record Subsumes (c d : Clause) : Type 0 where
   pub by : ℕ → Term
-  pub each : (part : Part) → MapsInto by (part_of c part) (part_of d part)
+  pub each : EachPart (MapsApart by) c d
+
+-- of these clauses, each with its number, none is subsumed by another one
+abbrev pub AreReduced : (ℕ → Clause → Type 0) → Type 0
+AreReduced These = (m n : ℕ) (c d : Clause) → These m c → These n d → (m ≡ n → ⊥) → Subsumes c d → ⊥
 
 -- each atom is there as often as here, or more often, up to exchanged sides
 abbrev pub is_contained : List Atom → List Atom → Bool

@@ -9,8 +9,6 @@ mod branch;
 mod caches;
 mod event;
 mod table;
-#[cfg(test)]
-mod tests;
 
 pub use event::{End, Entry, Event, Limits};
 pub use table::Table;

@@ -10,5 +10,3 @@ pub use entry::Entry;
 pub use tally::Tally;
 pub use work::{append_once, enter_at_once, greatest_at_turn, tally_by_turns};
 
-#[cfg(test)]
-mod tests;

@@ -1,3 +1,4 @@
+//! Whether all variables of terms have numbers below a bound, which unifying and matching ask for.
 ghost use Rattle.std.specs.Prelude.{◌≡◌, ◌↔◌, IsTrue};
 ghost use Rattle.std.specs.List.{list_all};
 ghost use Rattle.spl_truth.specs.Unifiers.{HasVariablesBelow, HaveVariablesBelow};

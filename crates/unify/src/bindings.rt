@@ -1,3 +1,4 @@
+//! Variables bound to terms by reference, in the order in which they were bound, so that binding can be undone.
 ghost use Rattle.std.specs.Prelude.{◌≡◌, ℕ, List, [], ◌∷◌, ◌++◌, ◌-◌, ◌<◌, length, drop, Some, None, IfOk, OnOk, OnErr, MatchOption};
 ghost use Rattle.spl_terms.specs.declared.term.Term.{Term};
 ghost use Rattle.spl_truth.specs.Unifiers.{entries_below};

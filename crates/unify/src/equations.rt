@@ -1,3 +1,4 @@
+//! The equations that a unifier still has to solve.
 ghost use Rattle.std.specs.Prelude.{◌≡◌, [], ◌∷◌, ◌++◌, length, OnOk, MatchOption};
 ghost use Rattle.std.specs.List.{zip};
 

@@ -1,3 +1,4 @@
+//! Quick tests that terms with a unifier, or with a matcher, pass.
 ghost use Rattle.std.specs.Prelude.{◌≡◌};
 ghost use Rattle.unify.specs.Fitting.{fits, all_fit, covers, all_cover};
 

@@ -6,8 +6,6 @@ mod bindings;
 mod equations;
 mod fitting;
 mod matching;
-#[cfg(test)]
-mod tests;
 mod triangular;
 mod unifying;
 

@@ -1,3 +1,4 @@
+//! Matching: substitutions that make a target of a pattern.
 ghost use Rattle.std.specs.Prelude.{◌≡◌, ◌==◌, ℕ, ◌<◌, map, IfOk, MatchOption};
 ghost use Rattle.std.specs.List.{list_any};
 ghost use Rattle.spl_terms.specs.declared.term.Symbol.{Symbol};

@@ -1,3 +1,4 @@
+//! Terms seen through bindings that refer to one another.
 ghost use Rattle.std.specs.Prelude.{◌≡◌, [], ◌∷◌, ◌++◌, map, IfOk, OnOk};
 ghost use Rattle.std.specs.List.{list_any};
 ghost use Rattle.spl_terms.specs.Terms.{replace};

@@ -1,3 +1,4 @@
+//! Most general unifiers by the rules of Martelli and Montanari.
 ghost use Rattle.std.specs.Prelude.{◌≡◌, ◌<◌, ◌&&◌, ◌==◌, ◌↔◌, [], ◌∷◌, ◌++◌, length, option_map, None, IsTrue, IfOk, OnOk, IfSome, MatchOption};
 ghost use Rattle.spl_terms.specs.Terms.{symbol_eq};
 ghost use Rattle.spl_terms.specs.declared.term.Term.{Var, App};

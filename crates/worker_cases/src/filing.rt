@@ -1,3 +1,4 @@
+//! Numbers of lines filed under keys of their atoms.
 ghost use Rattle.std.specs.Prelude.{◌≡◌, ℕ, [], fold, map, unwrap_or, nat_eq, OnOk, OnErr, MatchBool};
 ghost use Rattle.indexmap.specs.IndexMap.{get};
 ghost use Rattle.split_tree.specs.Journal.{ledger};

@@ -1,3 +1,4 @@
+//! Why the loop stops within a round.
 ghost use Rattle.std.specs.Prelude.{◌≡◌};
 ghost use Rattle.worker_cases.specs.declared.halt.Halt.TheVariants as halt;
 

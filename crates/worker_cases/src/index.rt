@@ -1,3 +1,4 @@
+//! What is filed for the case that the worker holds.
 ghost use Rattle.std.specs.Prelude.{◌≡◌, ◌<◌, ◌≤◌, [], Some, true, IfOk, OnOk, MatchBool};
 ghost use Rattle.proof_steps.specs.declared.step.Line.{Line};
 ghost use Rattle.proof_steps.specs.Steps.{numbered};

@@ -1,3 +1,4 @@
+//! The inferences of two clauses, published one by one.
 ghost use Rattle.std.specs.Prelude.{◌≡◌, ◌==◌, if◌then◌else◌, ℕ, OnOk, IfErr, IsErr};
 ghost use Rattle.spl_terms.specs.declared.clause.Part.{Part};
 ghost use Rattle.worker_cases.specs.Covering.{IsCoveredAt, IsCoveredPair};

@@ -1,3 +1,4 @@
+//! Lines of the table by their numbers.
 ghost use Rattle.std.specs.Prelude.{◌≡◌, option_copied};
 ghost use Rattle.spl_terms.specs.declared.clause.Part.{Part};
 ghost use Rattle.proof_steps.specs.Steps.{numbered, Sized};

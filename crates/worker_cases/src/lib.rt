@@ -11,8 +11,6 @@ mod ledger;
 mod partners;
 mod publishing;
 mod rounds;
-#[cfg(test)]
-mod tests;
 mod working;
 
 pub use cases::alone;

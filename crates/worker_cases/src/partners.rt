@@ -1,3 +1,4 @@
+//! Which worked clauses may resolve with the chosen one.
 ghost use Rattle.std.specs.Prelude.{IfOk, OnOk};
 ghost use Rattle.worker_cases.specs.Filing.{IsLinked, FilesOnly};
 ghost use Rattle.worker_cases.specs.Partners.{HasAtoms, HasClause, HasValues, HasValuesOf, HasPartners, AreFiledValues, AddsValues};

@@ -1,3 +1,4 @@
+//! Conclusions that are published, or dropped with a reason.
 ghost use Rattle.std.specs.Prelude.{◌≡◌, ◌<◌, ◌≤◌, ◌++◌, ◌∷◌, [], OnOk, OnErr, IfErr, IfOk, IsErr, Some, true, false};
 ghost use Rattle.spl_terms.specs.Clauses.{clause_symbols, is_empty};
 ghost use Rattle.proof_steps.specs.Steps.{ground_resolve};

@@ -1,3 +1,4 @@
+//! The chosen clause worked off against its partners.
 ghost use Rattle.std.specs.Prelude.{◌≡◌, ◌⊎◌, ◌<◌, ◌≤◌, ◌-◌, ℕ, [], length, IsSome, OnOk, OnErr, IfOk, IfErr, IsErr, Some, None, true, false, MatchBool, MatchOption};
 ghost use Rattle.proof_steps.specs.declared.step.Line.{Line};
 ghost use Rattle.proof_steps.specs.Steps.{numbered};

@@ -1,4 +1,4 @@
-use Rattle.std.proofs.Common.{◌≡◌, ◌-◌, length, take, drop, arith, subst, length-drop}
+use Rattle.std.proofs.Common.{◌≡◌, ◌∙◌, ◌-◌, length, take, drop, arith, subst, length-drop}
 use Rattle.std.proofs.lemmas.List.{take_all}
 use Rattle.std.specs.Io.KnownBytes.{Appends}
 use Rattle.outside_io.proofs.Streams.{appends_take}
@@ -16,5 +16,5 @@ loop-at-preserved g c =
     record {
       within = omega (arith, bound, length-drop at bytes, c.loop-at.invariant.within);
       bytes = appends_take _ before after at c.in_ok-at.field-0 bytes c.loop-at.invariant.bytes more;
-      later = grind arith;
+      faults = ◌∙◌ {b = g.K.Sink.faults c.loop-at.sink} c.in_ok-at.ensures.faults c.loop-at.invariant.faults;
     }

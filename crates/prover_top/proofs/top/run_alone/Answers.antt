@@ -1,4 +1,4 @@
-use Rattle.prover_top.proofs.Clauses.{has_table, has_answer, proof_only, proof_always, completion_only, rounds_only, steps_only, size_only, words_only, words_always, fault_only, too_long_only, input_only, too_long_always, input_always, complete}
+use Rattle.prover_top.proofs.Clauses.{has_table, has_answer, proof_only, proof_always, completion_only, rounds_only, steps_only, size_only, words_only, words_always, fault_only, fault_always, read_count, too_long_only, input_only, too_long_always, input_always, complete}
 use Rattle.prover_top.proofs.top.run_alone.Goals as goal
 
 pub returns-clause-table : goal.returns-clause-table
@@ -48,3 +48,9 @@ returns-clause-input_always g c = input_always _ _ _ _ _ _ c.respond.ensures.out
 
 pub returns-clause-complete : goal.returns-clause-complete
 returns-clause-complete g c = complete _ _ _ _ _ _ c.respond.ensures.outcome
+
+pub returns-clause-fault_always : goal.returns-clause-fault_always
+returns-clause-fault_always g c = fault_always _ _ _ _ _ _ c.respond.ensures.outcome
+
+pub returns-clause-read_count : goal.returns-clause-read_count
+returns-clause-read_count g c = read_count _ _ _ _ _ _ c.respond.ensures.outcome

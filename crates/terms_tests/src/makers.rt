@@ -1,0 +1,126 @@
+//! Terms, atoms and clauses out of short texts, which the tests of this crate share.
+//!
+//! A text is in prefix notation: f and T take two arguments, g, h, p, s and P, Q, R, S take one, a to e take none, `=` is an
+//! equation, the digits are the variables 0 to 9, and w, x, y, z those with the numbers 9000, 64, 70 and 9001. Capital
+//! letters are predicates, but S is a sort. A letter's number is its place in the alphabet.
+use spl_terms::{Atom, Clause, Items, Kind, Symbol, Term};
+use std::alloc::{AllocError, Global};
+
+/// How many arguments the letter takes.
+fn arity(letter: u8) -> usize {
+    match letter {
+        b'f' | b'T' | b'=' => 2,
+        b'g' | b'h' | b'p' | b's' | b'P' | b'Q' | b'R' | b'S' => 1,
+        _ => 0,
+    }
+}
+
+/// The variable of a digit, or of w, x, y, z.
+fn variable(letter: u8) -> Option<u32> {
+    match letter {
+        b'0'..=b'9' => Some(letter as u32 - 48),
+        b'w' => Some(9000),
+        b'x' => Some(64),
+        b'y' => Some(70),
+        b'z' => Some(9001),
+        _ => None,
+    }
+}
+
+/// The symbol of a letter.
+pub fn symbol(letter: u8) -> Symbol {
+    let kind = match letter {
+        b'S' => Kind::Sort,
+        b'A'..=b'Z' => Kind::Predicate,
+        _ => Kind::Function,
+    };
+    Symbol {
+        number: (letter & 31) as u32,
+        kind,
+    }
+}
+
+/// What was read from the end of a text: the terms that no symbol took yet, and the atoms.
+#[derive(Drop)]
+struct Reading {
+    terms: Vec<Term>,
+    atoms: Vec<Atom>,
+}
+
+/// The arguments of a symbol, of which the first was read last.
+fn taken(alloc: Global, count: usize, terms: &mut Vec<Term>) -> Result<Items<Term>, AllocError> {
+    let mut args = Items::with_room(alloc, count)?;
+    for _ in 0..count {
+        if let Some(term) = terms.pop() {
+            args.push(term)?;
+        }
+    }
+    Ok(args)
+}
+
+fn equation(terms: &mut Vec<Term>) -> Atom {
+    let left = terms.pop().unwrap_or(Term::Var(0));
+    Atom::Equal(left, terms.pop().unwrap_or(Term::Var(0)))
+}
+
+fn read_letter(alloc: Global, letter: u8, reading: &mut Reading) -> Result<(), AllocError> {
+    if let Some(number) = variable(letter) {
+        reading.terms.push(Term::Var(number))?;
+        return Ok(());
+    }
+    if letter == b'=' {
+        let atom = equation(&mut reading.terms);
+        reading.atoms.push(atom)?;
+        return Ok(());
+    }
+    let args = taken(alloc, arity(letter), &mut reading.terms)?;
+    let symbol = symbol(letter);
+    match symbol.kind {
+        Kind::Function => reading.terms.push(Term::App(symbol, args))?,
+        _ => reading.atoms.push(Atom::Holds(symbol, args))?,
+    }
+    Ok(())
+}
+
+fn read(alloc: Global, text: &[u8]) -> Result<Reading, AllocError> {
+    let mut reading = Reading {
+        terms: Vec::new(alloc),
+        atoms: Vec::new(alloc),
+    };
+    for letter in text.iter().rev() {
+        read_letter(alloc, *letter, &mut reading)?;
+    }
+    reading.terms.reverse();
+    reading.atoms.reverse();
+    Ok(reading)
+}
+
+/// The terms of a text in order.
+pub fn terms(alloc: Global, text: &[u8]) -> Result<Items<Term>, AllocError> {
+    Ok(Items::from_vec(read(alloc, text)?.terms))
+}
+
+/// The first term of a text.
+pub fn term(alloc: Global, text: &[u8]) -> Result<Term, AllocError> {
+    let mut found = read(alloc, text)?.terms;
+    found.truncate(1);
+    Ok(found.pop().unwrap_or(Term::Var(0)))
+}
+
+/// The atoms of a text in order.
+pub fn atoms(alloc: Global, text: &[u8]) -> Result<Items<Atom>, AllocError> {
+    Ok(Items::from_vec(read(alloc, text)?.atoms))
+}
+
+/// The texts of a clause: its constraint, antecedent and succedent.
+pub type Written = (&'static [u8], &'static [u8], &'static [u8]);
+
+/// The clause of these texts.
+pub fn clause(alloc: Global, written: Written) -> Result<Clause, AllocError> {
+    let (constraint, antecedent, succedent) = written;
+    Ok(Clause {
+        constraint: atoms(alloc, constraint)?,
+        antecedent: atoms(alloc, antecedent)?,
+        succedent: atoms(alloc, succedent)?,
+    })
+}
