@@ -13,6 +13,7 @@ use Rattle.spl_terms.specs.declared.clause.Clause.{Clause}
 use Rattle.spl_terms.specs.Terms.{term_eq}
 use Rattle.spl_terms.specs.declared.clause.PushError.{PushError}
 use Rattle.spl_terms.specs.declared.clause.PushError.TheVariants.{Big, Memory}
+pub use Rattle.spl_terms.specs.Lists.{numbered}
 use Rattle.spl_terms.specs.Clauses.{is_same, is_empty, part_of, clause_symbols, clause_variables, firsts, in_order}
 use Rattle.spl_truth.specs.Truth.{apply}
 use Rattle.spl_truth.specs.Redundancy.{has_equal_sides}
@@ -29,11 +30,6 @@ use Rattle.clause_parts.specs.Parts.{Parted, parts_of, negated_atom}
 
 abbrev pub when : {A : Type 0} → Bool → A → Option A
 when b a = if b then Some a else None
-
--- the element with this number, counted from 1
-abbrev pub numbered : {A : Type 0} → List A → ℕ → Option A
-numbered xs zero = None
-numbered xs (suc k) = slice_get xs k
 
 -- one entry for each variable of the clause
 abbrev pub fits : List Term → Clause → Bool

@@ -12,20 +12,20 @@ use Rattle.spl_terms.proofs.NumberLemmas.{term_variables-Var, term_variables-App
 use Rattle.spl_truth.specs.Unifiers.{occurs, HasVariablesBelow, HaveVariablesBelow}
 use Rattle.spl_truth.proofs.Occurring.{or_left, or_right, occurs-App}
 use Rattle.spl_truth.proofs.Unifiers.{any_of_all, occurs_below}
-use Rattle.unify.specs.Below.{is_below, AllBelow, IsBelow, AreBelow, EquationsBelow}
+use Rattle.unify.specs.Below.{has_variables_below, AllBelow, IsBelow, AreBelow, EquationsBelow}
 
 and_true : (b : Bool) → (b && true) ≡ b
 and_true true = refl
 and_true false = refl
 
-pub below-Var : (n v : ℕ) → is_below n (Var v) ≡ nat_lt v n
+pub below-Var : (n v : ℕ) → has_variables_below n (Var v) ≡ nat_lt v n
 below-Var n v = ap (list_all (λ w. nat_lt w n)) (term_variables-Var v) ∙ and_true _
 
-all-variables : (n : ℕ) (ts : List Term) → list_all (λ w. nat_lt w n) (flat_map term_variables ts) ≡ list_all (is_below n) ts
+all-variables : (n : ℕ) (ts : List Term) → list_all (λ w. nat_lt w n) (flat_map term_variables ts) ≡ list_all (has_variables_below n) ts
 all-variables n [] = refl
-all-variables n (t ∷ ts) = list_all-append (λ w. nat_lt w n) (term_variables t) (flat_map term_variables ts) ∙ ap (λ b. is_below n t && b) (all-variables n ts)
+all-variables n (t ∷ ts) = list_all-append (λ w. nat_lt w n) (term_variables t) (flat_map term_variables ts) ∙ ap (λ b. has_variables_below n t && b) (all-variables n ts)
 
-pub below-App : (n : ℕ) (f : Symbol) (ts : List Term) → is_below n (App f ts) ≡ list_all (is_below n) ts
+pub below-App : (n : ℕ) (f : Symbol) (ts : List Term) → has_variables_below n (App f ts) ≡ list_all (has_variables_below n) ts
 below-App n f ts = ap (list_all (λ w. nat_lt w n)) (term_variables-App f ts) ∙ all-variables n ts
 
 pub ruleset below_laws = (below-Var, below-App)
@@ -43,7 +43,7 @@ test_from_all n (v ∷ vs) h = rw (lt-ltb v n h.0, test_from_all n vs h.1)
 pub test_exact : (n : ℕ) (vs : List ℕ) → (list_all (λ w. nat_lt w n) vs ≡ true) ↔ All (λ v. v < n) vs
 test_exact n vs = (all_from_test n vs, λ h. test_from_all n vs (recursion_from_All (λ v. v < n) vs h))
 
-pub tests_exact : (n : ℕ) (ts : List Term) → (list_all (is_below n) ts ≡ true) ↔ All (λ v. v < n) (flat_map term_variables ts)
+pub tests_exact : (n : ℕ) (ts : List Term) → (list_all (has_variables_below n) ts ≡ true) ↔ All (λ v. v < n) (flat_map term_variables ts)
 tests_exact n ts = subst (λ b. (b ≡ true) ↔ All (λ v. v < n) (flat_map term_variables ts)) (all-variables n ts) (test_exact n (flat_map term_variables ts))
 
 -- ---- by what occurs

@@ -5,8 +5,8 @@ use Rattle.spl_terms.specs.declared.term.Term.{Term}
 use Rattle.spl_terms.specs.Terms.{term_variables}
 use Rattle.spl_truth.specs.Unifiers.{occurs}
 
-abbrev pub is_below : ℕ → Term → Bool
-is_below vars t = list_all (λ v. nat_lt v vars) (term_variables t)
+abbrev pub has_variables_below : ℕ → Term → Bool
+has_variables_below vars t = list_all (λ v. nat_lt v vars) (term_variables t)
 
 -- what passes the test is below the number
 abbrev pub AllBelow : ℕ → (ℕ → Bool) → Type 0

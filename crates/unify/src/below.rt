@@ -2,14 +2,14 @@
 ghost use Rattle.std.specs.Prelude.{◌≡◌, ◌↔◌, IsTrue};
 ghost use Rattle.std.specs.List.{list_all};
 ghost use Rattle.spl_truth.specs.Unifiers.{HasVariablesBelow, HaveVariablesBelow};
-ghost use Rattle.unify.specs.Below.{is_below};
+ghost use Rattle.unify.specs.Below.{has_variables_below};
 
 use spl_terms::Term;
 
 #[cycle(below)]
 #[tactic(auto, using(crate::proofs::BelowLemmas::below_laws))]
 fn below(term: &Term, vars: u32) -> bool
-    ensures { result ≡ is_below vars term.now }
+    ensures { result ≡ has_variables_below vars term.now }
 {
     match term {
         Term::Var(variable) => *variable < vars,
@@ -19,7 +19,7 @@ fn below(term: &Term, vars: u32) -> bool
 
 #[cycle(below)]
 fn all_below(terms: &[Term], vars: u32) -> bool
-    ensures { result ≡ list_all (is_below vars) terms.now }
+    ensures { result ≡ list_all (has_variables_below vars) terms.now }
 {
     for term in terms {
         if !below(term, vars) {
