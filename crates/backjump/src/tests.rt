@@ -6,11 +6,12 @@ ghost use Rattle.proof_steps.specs.Steps.{ground_resolve, states};
 ghost use Rattle.backjump.specs.Samples.{contradictory, chosen_again};
 
 use super::*;
+use case_journal::{End, Event, Limits};
 use dep_sets::Deps;
 use proof_steps::{Line, Rule, Statement, Step};
 use spl_terms::{Atom, Clause, Items, Kind, Part, Symbol};
 use spl_truth::Subst;
-use split_tree::{End, Event, Limits, Table};
+use split_tree::Table;
 use std::alloc::{AllocError, Global};
 use std::test::Fail;
 

@@ -2,14 +2,15 @@ ghost use Rattle.std.specs.Prelude.{◌≡◌, ℕ, ◌<◌, ◌≤◌, [], IfOk
 ghost use Rattle.std.specs.Bool.{OnTrue};
 ghost use Rattle.proof_steps.specs.declared.step.Line.{Line};
 ghost use Rattle.proof_steps.specs.Steps.{numbered};
-ghost use Rattle.split_tree.specs.Journal.{ledger, nodes};
-ghost use Rattle.split_tree.specs.Facts.{chosen, Holds};
-ghost use Rattle.split_tree.specs.Ending.{reason};
+ghost use Rattle.case_journal.specs.Journal.{ledger, nodes};
+ghost use Rattle.case_journal.specs.Facts.{chosen, Holds};
+ghost use Rattle.case_journal.specs.Ending.{reason};
 ghost use Rattle.case_queue.specs.Queues.{HasPassive, HasQueue};
 
 use super::*;
+use case_journal::{Event, Limits};
 use spl_terms::{Atom, Clause, Items, Kind, Symbol};
-use split_tree::{Event, Limits, Table};
+use split_tree::Table;
 use std::alloc::{AllocError, Global};
 use std::test::Fail;
 

@@ -1,12 +1,13 @@
 ghost use Rattle.std.specs.Prelude.{◌≡◌, ◌≤◌, None};
 ghost use Rattle.std.specs.Bool.{OnTrue};
-ghost use Rattle.split_tree.specs.Journal.{nodes};
-ghost use Rattle.split_tree.specs.Ending.{first_end};
+ghost use Rattle.case_journal.specs.Journal.{nodes};
+ghost use Rattle.case_journal.specs.Ending.{first_end};
 
 use super::split;
+use case_journal::{End, Event, Limits};
 use proof_steps::{Line, Rule, split_of};
 use spl_terms::{Atom, Clause, Items, Kind, Symbol, Term, equal_clauses};
-use split_tree::{End, Event, Limits, Table};
+use split_tree::Table;
 use std::alloc::{AllocError, Global};
 use std::test::Fail;
 

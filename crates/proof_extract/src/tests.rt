@@ -3,16 +3,17 @@ ghost use Rattle.spl_terms.specs.declared.term.Kind.TheVariants.{Predicate};
 ghost use Rattle.spl_terms.specs.declared.atom.Atom.TheVariants.{Holds};
 ghost use Rattle.spl_terms.specs.declared.clause.Part.TheVariants.{Antecedent};
 ghost use Rattle.proof_steps.specs.Steps.{ground_resolve, side_of, states};
-ghost use Rattle.split_tree.specs.Journal.{steps};
-ghost use Rattle.split_tree.specs.declared.event.Event.TheVariants.{Choose};
-ghost use Rattle.split_tree.specs.Legal.{assume};
+ghost use Rattle.case_journal.specs.Journal.{steps};
+ghost use Rattle.case_journal.specs.declared.event.Event.TheVariants.{Choose};
+ghost use Rattle.case_journal.specs.Legal.{assume};
 
 use super::*;
+use case_journal::{Event, Limits};
 use dep_sets::{Assumption, Deps};
 use proof_steps::{Line, Rule, Statement, Step};
 use spl_terms::{Atom, Clause, Items, Kind, Part, Symbol, same_clause};
 use spl_truth::Subst;
-use split_tree::{Event, Limits, Table};
+use split_tree::Table;
 use std::alloc::{AllocError, Global};
 use std::test::Fail;
 

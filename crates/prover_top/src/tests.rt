@@ -1,7 +1,8 @@
 use crate::{Answer, Report, run_alone};
+use case_journal::{End, Event, Limits};
 use dfg_reader::{FaultKind, ReadFault};
 use outside_io::{MemorySink, MemorySource, SureSink, SureSource};
-use split_tree::{End, Event, Limits, Table};
+use split_tree::Table;
 use std::alloc::Global;
 use std::test::Fail;
 

@@ -1,10 +1,11 @@
 ghost use Rattle.std.specs.Prelude.{◌≡◌, ◌≤◌, [], ◌∷◌, IfOk, IfSome, None};
-ghost use Rattle.split_tree.specs.declared.event.Event.TheVariants.{Claim, Choose};
+ghost use Rattle.case_journal.specs.declared.event.Event.TheVariants.{Claim, Choose};
 ghost use Rattle.std.specs.Bool.{OnTrue};
-ghost use Rattle.split_tree.specs.Journal.{nodes};
-ghost use Rattle.split_tree.specs.Ending.{reason};
+ghost use Rattle.case_journal.specs.Journal.{nodes};
+ghost use Rattle.case_journal.specs.Ending.{reason};
 
 use super::*;
+use case_journal::{End, Event, Limits};
 use dep_sets::Deps;
 use spl_terms::{Atom, Clause, Items, Kind, Symbol};
 use std::alloc::{AllocError, Global};

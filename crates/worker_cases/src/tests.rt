@@ -1,6 +1,7 @@
 use super::*;
+use case_journal::{End, Event, Limits};
 use spl_terms::{Atom, Clause, Items, Kind, Symbol, Term};
-use split_tree::{End, Event, Limits, Table};
+use split_tree::Table;
 use std::alloc::{AllocError, Global};
 use std::test::Fail;
 

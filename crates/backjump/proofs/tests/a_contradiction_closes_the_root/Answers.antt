@@ -1,6 +1,6 @@
 use Rattle.std.proofs.Common.{false, [], ◌∷◌, sym, subst}
-use Rattle.split_tree.specs.declared.event.Event.TheVariants.{Publish}
-use Rattle.split_tree.specs.Legal.{IsLegal}
+use Rattle.case_journal.specs.declared.event.Event.TheVariants.{Publish}
+use Rattle.case_journal.specs.Legal.{IsLegal}
 use Rattle.backjump.specs.Samples.{contradictory, chosen_again}
 use Rattle.backjump.proofs.JournalSamples.{resolvent, publish_is, moved}
 use Rattle.backjump.proofs.tests.a_contradiction_closes_the_root.Goals as goal

@@ -1,6 +1,6 @@
 use Rattle.std.proofs.Common.{◌∙◌, ◌∷◌, None, ap}
-use Rattle.split_tree.specs.declared.event.Entry.{Entry}
-use Rattle.split_tree.specs.declared.event.Event.TheVariants.{Claim, Choose, Activate}
+use Rattle.case_journal.specs.declared.event.Entry.{Entry}
+use Rattle.case_journal.specs.declared.event.Event.TheVariants.{Claim, Choose, Activate}
 use Rattle.backjump.specs.Samples.{contradictory, chosen}
 use Rattle.backjump.proofs.JournalSamples.{activate_is, moved}
 use Rattle.backjump.proofs.tests.chosen.Goals as goal

@@ -1,7 +1,7 @@
 use Rattle.std.proofs.Common.{◌≡◌, ℕ, ◌≤◌, [], Some}
 use Rattle.proof_steps.specs.declared.step.Line.{Line}
 use Rattle.proof_steps.specs.Steps.{numbered}
-use Rattle.split_tree.specs.Journal.{ledger}
+use Rattle.case_journal.specs.Journal.{ledger}
 use Rattle.case_queue.proofs.tests.is_positive.Given as goal
 
 abbrev pub invariant-loop-k : goal.invariant-loop-k

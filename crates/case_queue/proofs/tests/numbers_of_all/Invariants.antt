@@ -1,6 +1,6 @@
 use Rattle.std.proofs.Common.{◌≡◌, ℕ, ◌+◌, Some, length}
 use Rattle.std.specs.List.{slice_get}
-use Rattle.split_tree.specs.Journal.{steps}
+use Rattle.case_journal.specs.Journal.{steps}
 use Rattle.case_queue.proofs.tests.numbers_of_all.Given as goal
 
 abbrev pub invariant-loop-k : goal.invariant-loop-k

@@ -1,4 +1,4 @@
-use Rattle.split_tree.proofs.Climb.{nodes_some}
+use Rattle.case_journal.specs.PathLaws.{nodes_some}
 use Rattle.case_queue.proofs.tests.picks.Goals as goal
 
 pub pick-wanted-requires : goal.pick-wanted-requires

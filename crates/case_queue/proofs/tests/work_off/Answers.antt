@@ -1,10 +1,10 @@
 use Rattle.std.proofs.Common.{◌∙◌, inl, inr, subst, ap, sym, arith}
-use Rattle.split_tree.specs.Facts.{chosen}
-use Rattle.split_tree.specs.Journal.{ledger}
-use Rattle.split_tree.proofs.Homes.{listed_within}
-use Rattle.split_tree.proofs.Legals.{unended}
-use Rattle.split_tree.proofs.Picks.{IsClause}
-use Rattle.split_tree.proofs.Positive.{positive_alone}
+use Rattle.case_journal.specs.Facts.{chosen}
+use Rattle.case_journal.specs.Journal.{ledger}
+use Rattle.case_journal.specs.ListedLaws.{listed_within}
+use Rattle.case_journal.specs.RootLaws.{unended}
+use Rattle.case_journal.specs.PickLaws.{IsClause}
+use Rattle.case_journal.specs.ResolutionLaws.{positive_alone}
 use Rattle.case_queue.proofs.Lines.{numbered_there}
 use Rattle.case_queue.proofs.tests.work_off.Goals as goal
 

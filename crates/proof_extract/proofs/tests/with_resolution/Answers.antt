@@ -1,5 +1,5 @@
 use Rattle.std.proofs.Common.{◌≡◌, ◌∙◌, ap, refl, false, [], ◌∷◌, ◌++◌, None}
-use Rattle.split_tree.specs.declared.event.Event.TheVariants.{Claim, Choose, Publish, Activate}
+use Rattle.case_journal.specs.declared.event.Event.TheVariants.{Claim, Choose, Publish, Activate}
 use Rattle.proof_extract.proofs.WithResolution.{s, conclusion, claimed, chosen, activated, chosen_again, choose_legal, activate_legal, choose_again_legal, publish_legal, legal_at, setting_is, entry_is}
 use Rattle.proof_extract.proofs.tests.with_resolution.Goals as goal
 

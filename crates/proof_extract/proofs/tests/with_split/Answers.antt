@@ -1,7 +1,7 @@
 use Rattle.std.proofs.Common.{◌≡◌, ◌∙◌, ap, refl, [], ◌∷◌, ◌++◌, Some, None}
 use Rattle.proof_steps.specs.Steps.{side_of, states}
-use Rattle.split_tree.specs.declared.event.Event.TheVariants.{Claim, Choose, Split}
-use Rattle.split_tree.specs.Legal.{assume}
+use Rattle.case_journal.specs.declared.event.Event.TheVariants.{Claim, Choose, Split}
+use Rattle.case_journal.specs.Legal.{assume}
 use Rattle.proof_extract.proofs.WithResolution.{claimed, chosen, legal_at, entry_is}
 use Rattle.proof_extract.proofs.WithSplit.{t, left_line, right_line, negated_line, split_event, choose_legal, split_legal, setting_is}
 use Rattle.proof_extract.proofs.tests.with_split.Goals as goal

@@ -1,11 +1,11 @@
 use Rattle.std.proofs.Common.{◌≡◌, ◌∙◌, true, false, List, [], ◌∷◌, None, ap, sym, refl, arith, inl, inr}
-use Rattle.split_tree.specs.declared.event.Entry.{Entry}
-use Rattle.split_tree.specs.declared.event.Event.TheVariants.{Claim, Choose}
-use Rattle.split_tree.specs.Journal.{ledger}
-use Rattle.split_tree.specs.Facts.{chosen, worked}
+use Rattle.case_journal.specs.declared.event.Entry.{Entry}
+use Rattle.case_journal.specs.declared.event.Event.TheVariants.{Claim, Choose}
+use Rattle.case_journal.specs.Journal.{ledger}
+use Rattle.case_journal.specs.Facts.{chosen, worked}
 use Rattle.proof_steps.specs.Steps.{numbered}
-use Rattle.split_tree.proofs.Legals.{unended}
-use Rattle.split_tree.proofs.Positive.{positive_alone}
+use Rattle.case_journal.specs.RootLaws.{unended}
+use Rattle.case_journal.specs.ResolutionLaws.{positive_alone}
 use Rattle.split_tree.proofs.tests.activate.Goals as goal
 
 pub apply-requires-clause-legal : goal.apply-requires-clause-legal

@@ -1,5 +1,5 @@
 use Rattle.std.proofs.Common.{ap, sym, refl, arith}
-use Rattle.split_tree.proofs.Legals.{settled_root, unended}
+use Rattle.case_journal.specs.RootLaws.{settled_root, unended}
 use Rattle.split_tree.proofs.tests.choose.Goals as goal
 
 pub chosen-requires : goal.chosen-requires

@@ -1,7 +1,7 @@
 use Rattle.std.proofs.Common.{◌≡◌, ◌∙◌, ap, sym, subst, refl, arith}
 use Rattle.std.specs.Prelude.{IsSome}
-use Rattle.split_tree.specs.Facts.{chosen}
-use Rattle.split_tree.proofs.Legals.{settled_root, unended}
+use Rattle.case_journal.specs.Facts.{chosen}
+use Rattle.case_journal.specs.RootLaws.{settled_root, unended}
 use Rattle.split_tree.proofs.tests.give_up.Goals as goal
 
 pub chosen-requires : goal.chosen-requires

@@ -1,5 +1,5 @@
 use Rattle.std.proofs.Common.{sym, arith}
-use Rattle.split_tree.proofs.Legals.{settled_root, unended}
+use Rattle.case_journal.specs.RootLaws.{settled_root, unended}
 use Rattle.split_tree.proofs.tests.saturate.Goals as goal
 
 pub chosen-requires : goal.chosen-requires
