@@ -10,19 +10,19 @@ use Rattle.dep_sets.specs.Assumptions.{contains_assumption}
 use Rattle.proof_steps.specs.declared.step.Line.{Line}
 use Rattle.proof_steps.specs.Steps.{numbered, side_of, when, closes, of_three, case_both, conclude}
 use Rattle.proof_steps.specs.Checked.{stated}
-use Rattle.split_tree.specs.declared.event.Entry.{Entry}
-use Rattle.split_tree.specs.declared.event.Event.TheVariants.{Publish}
-use Rattle.split_tree.specs.declared.event.End.{End}
-use Rattle.split_tree.specs.declared.event.End.TheVariants.{Proved}
-use Rattle.split_tree.specs.Journal.{Setting, nodes, ledger, steps, counted, count_of}
-use Rattle.split_tree.specs.Paths.{on_path, owner}
-use Rattle.split_tree.specs.Facts.{IsEmptyAt, IsLive}
-use Rattle.split_tree.specs.Ending.{no_assumptions, is_contradiction, first_end, or_else}
-use Rattle.split_tree.specs.Legal.{IsLegal, IsLegalJournal, IsChild, case_step}
-use Rattle.split_tree.specs.Closing.{published}
-use Rattle.split_tree.proofs.Bounds.{counted_bound}
-use Rattle.split_tree.proofs.Branches.{climbs}
-use Rattle.split_tree.proofs.Depends.{numbered_new}
+use Rattle.case_journal.specs.declared.event.Entry.{Entry}
+use Rattle.case_journal.specs.declared.event.Event.TheVariants.{Publish}
+use Rattle.case_journal.specs.declared.event.End.{End}
+use Rattle.case_journal.specs.declared.event.End.TheVariants.{Proved}
+use Rattle.case_journal.specs.Journal.{Setting, nodes, ledger, steps, counted, count_of}
+use Rattle.case_journal.specs.Paths.{on_path, owner}
+use Rattle.case_journal.specs.Facts.{IsEmptyAt, IsLive}
+use Rattle.case_journal.specs.Ending.{no_assumptions, is_contradiction, first_end, or_else}
+use Rattle.case_journal.specs.Legal.{IsLegal, IsLegalJournal, IsChild, case_step}
+use Rattle.case_journal.specs.Closing.{published}
+use Rattle.case_journal.specs.BoundLaws.{counted_bound}
+use Rattle.case_journal.specs.BranchLaws.{climbs}
+use Rattle.case_journal.specs.DependenceLaws.{numbered_new}
 use Rattle.backjump.specs.Cases.{case_line, IsOpenOrProved, CanClose}
 use Rattle.backjump.proofs.Deaths.{child_depends, dead_below, owner_on, own_assumption, with_line}
 

@@ -6,23 +6,23 @@ use Rattle.dep_sets.specs.declared.deps.Assumption.{Assumption}
 use Rattle.dep_sets.specs.Assumptions.{contains_assumption, is_same_assumption}
 use Rattle.proof_steps.specs.declared.step.Line.{Line}
 use Rattle.proof_steps.specs.Steps.{numbered, side_of}
-use Rattle.split_tree.specs.declared.branch.Branch.{Branch}
-use Rattle.split_tree.specs.declared.event.Entry.{Entry}
-use Rattle.split_tree.specs.declared.event.Event.{Event}
-use Rattle.split_tree.specs.declared.event.Event.TheVariants.{Publish, Split}
-use Rattle.split_tree.specs.Journal.{Setting, nodes, nodes_of, ledger, steps, lines_of}
-use Rattle.split_tree.specs.Paths.{stem, on_path, branch, branch_by, branch_to, owner, owner_by, subject}
-use Rattle.split_tree.specs.Facts.{lists, listed, IsEmptyAt, IsDead, IsLive}
-use Rattle.split_tree.specs.Legal.{IsAsked, IsLegalJournal, IsChild, IsPublishable, IsSplittable}
-use Rattle.split_tree.specs.Closing.{published}
-use Rattle.split_tree.proofs.Places.{stem_there, claimed_within}
-use Rattle.split_tree.proofs.Climb.{on_path-self, on_path_within, on_path_grow, stem_old}
-use Rattle.split_tree.proofs.Branches.{branch_old, branch_root, climbs}
-use Rattle.split_tree.proofs.Homes.{listed_within}
-use Rattle.split_tree.proofs.Ledger.{numbered_more}
-use Rattle.split_tree.proofs.Picks.{subject_is}
-use Rattle.split_tree.proofs.Standing.{on_path_trans, on_path_before, owner_root, owner_climbs, new_branch, listed_stands, split_here, published_within}
-use Rattle.split_tree.proofs.Depends.{listed_after, child_some, chain_line, side_deps, numbered_old, numbered_new, same_self}
+use Rattle.case_journal.specs.declared.branch.Branch.{Branch}
+use Rattle.case_journal.specs.declared.event.Entry.{Entry}
+use Rattle.case_journal.specs.declared.event.Event.{Event}
+use Rattle.case_journal.specs.declared.event.Event.TheVariants.{Publish, Split}
+use Rattle.case_journal.specs.Journal.{Setting, nodes, nodes_of, ledger, steps, lines_of}
+use Rattle.case_journal.specs.Paths.{stem, on_path, branch, branch_by, branch_to, owner, owner_by, subject}
+use Rattle.case_journal.specs.Facts.{lists, listed, IsEmptyAt, IsDead, IsLive}
+use Rattle.case_journal.specs.Legal.{IsAsked, IsLegalJournal, IsChild, IsPublishable, IsSplittable}
+use Rattle.case_journal.specs.Closing.{published}
+use Rattle.case_journal.specs.PlaceLaws.{stem_there, claimed_within}
+use Rattle.case_journal.specs.PathLaws.{on_path-self, on_path_within, on_path_grow, stem_old}
+use Rattle.case_journal.specs.BranchLaws.{branch_old, branch_root, climbs}
+use Rattle.case_journal.specs.ListedLaws.{listed_within}
+use Rattle.case_journal.specs.LedgerLaws.{numbered_more}
+use Rattle.case_journal.specs.PickLaws.{subject_is}
+use Rattle.case_journal.specs.StandingLaws.{on_path_trans, on_path_before, owner_root, owner_climbs, new_branch, listed_stands, split_here, published_within}
+use Rattle.case_journal.specs.DependenceLaws.{listed_after, child_some, chain_line, side_deps, numbered_old, numbered_new, same_self}
 use Rattle.backjump.specs.Cases.{IsSettledAt}
 
 -- ---- what stands on a path is listed

@@ -8,23 +8,23 @@ use Rattle.dep_sets.specs.declared.deps.Assumption.{Assumption}
 use Rattle.proof_steps.specs.declared.step.Line.{Line}
 use Rattle.proof_steps.specs.declared.step.Rule.TheVariants.{CaseBoth}
 use Rattle.proof_steps.specs.Steps.{numbered}
-use Rattle.split_tree.specs.declared.branch.Branch.{Branch}
-use Rattle.split_tree.specs.declared.event.Entry.{Entry}
-use Rattle.split_tree.specs.declared.event.Event.{Event}
-use Rattle.split_tree.specs.declared.event.Event.TheVariants.{Publish}
-use Rattle.split_tree.specs.Journal.{Setting, nodes, ledger, steps, lines_of, last_line}
-use Rattle.split_tree.specs.Paths.{on_path, branch, branch_to, owner, is_leaf}
-use Rattle.split_tree.specs.Facts.{listed, IsEmptyAt, IsDead, IsLive, cost_of}
-use Rattle.split_tree.specs.Ending.{first_end}
-use Rattle.split_tree.specs.Legal.{IsLegal, IsLegalJournal, IsSettled, IsChild, IsFirstEmpty}
-use Rattle.split_tree.proofs.Climb.{on_path-self}
-use Rattle.split_tree.proofs.Places.{publish_there}
-use Rattle.split_tree.proofs.Branches.{branch_root, climbs}
-use Rattle.split_tree.proofs.Homes.{listed_within}
-use Rattle.split_tree.proofs.Ledger.{numbered_more}
-use Rattle.split_tree.proofs.Lists.{numbered_get}
-use Rattle.split_tree.proofs.Standing.{on_path_trans, parent_below}
-use Rattle.split_tree.proofs.Depends.{numbered_new, split_listed}
+use Rattle.case_journal.specs.declared.branch.Branch.{Branch}
+use Rattle.case_journal.specs.declared.event.Entry.{Entry}
+use Rattle.case_journal.specs.declared.event.Event.{Event}
+use Rattle.case_journal.specs.declared.event.Event.TheVariants.{Publish}
+use Rattle.case_journal.specs.Journal.{Setting, nodes, ledger, steps, lines_of, last_line}
+use Rattle.case_journal.specs.Paths.{on_path, branch, branch_to, owner, is_leaf}
+use Rattle.case_journal.specs.Facts.{listed, IsEmptyAt, IsDead, IsLive, cost_of}
+use Rattle.case_journal.specs.Ending.{first_end}
+use Rattle.case_journal.specs.Legal.{IsLegal, IsLegalJournal, IsSettled, IsChild, IsFirstEmpty}
+use Rattle.case_journal.specs.PathLaws.{on_path-self}
+use Rattle.case_journal.specs.PlaceLaws.{publish_there}
+use Rattle.case_journal.specs.BranchLaws.{branch_root, climbs}
+use Rattle.case_journal.specs.ListedLaws.{listed_within}
+use Rattle.case_journal.specs.LedgerLaws.{numbered_more}
+use Rattle.case_journal.specs.ListLaws.{numbered_get}
+use Rattle.case_journal.specs.StandingLaws.{on_path_trans, parent_below}
+use Rattle.case_journal.specs.DependenceLaws.{numbered_new, split_listed}
 use Rattle.backjump.specs.Cases.{case_line, OnlyCloses, IsOpenOrProved, IsSettledAt, CanClose}
 use Rattle.backjump.specs.declared.closing.Next.{Next}
 use Rattle.backjump.specs.Plans.{appended, twin_of, sided_line, IsNext, IsNextEvent, IsOneLine, IsPlan}

@@ -3,13 +3,13 @@ use Rattle.std.proofs.Common.{◌≡◌, false, List, [], ◌∷◌, None, refl,
 use Rattle.spl_terms.specs.declared.clause.Part.TheVariants.{Antecedent}
 use Rattle.proof_steps.specs.declared.step.Line.{Line}
 use Rattle.proof_steps.specs.Steps.{ground_resolve, states}
-use Rattle.split_tree.specs.declared.event.Entry.{Entry}
-use Rattle.split_tree.specs.declared.event.Event.{Event}
-use Rattle.split_tree.specs.declared.event.Event.TheVariants.{Claim, Choose, Publish, Activate}
-use Rattle.split_tree.specs.Journal.{Setting}
-use Rattle.split_tree.specs.Legal.{IsLegal, IsSettled}
-use Rattle.split_tree.proofs.Examples.{example_legal}
-use Rattle.split_tree.proofs.Legals.{settled_root}
+use Rattle.case_journal.specs.declared.event.Entry.{Entry}
+use Rattle.case_journal.specs.declared.event.Event.{Event}
+use Rattle.case_journal.specs.declared.event.Event.TheVariants.{Claim, Choose, Publish, Activate}
+use Rattle.case_journal.specs.Journal.{Setting}
+use Rattle.case_journal.specs.Legal.{IsLegal, IsSettled}
+use Rattle.case_journal.specs.ExampleLaws.{example_legal}
+use Rattle.case_journal.specs.RootLaws.{settled_root}
 use Rattle.backjump.specs.Samples.{contradictory, claimed, chosen, activated, chosen_again}
 
 abbrev pub resolvent : Line

@@ -1,16 +1,16 @@
 -- The children of a node have two numbers of which the first is odd, and the next.
 use Rattle.std.proofs.Common.{◌≡◌, ℕ, ◌+◌, ◌*◌, ◌<◌, ◌≤◌, inl, inr, true, false, cond, not, eqb, List, [], ◌∷◌, Some, refl, sym, ◌∙◌, ap, arith, eq-eqb}
 use Rattle.std.proofs.lemmas.Bool.{and_cases, and_left, and_right, eqb-true, cases_lt, cond-true, cond-false, false≢true, ne_eqb, not-false}
-use Rattle.split_tree.specs.declared.event.Entry.{Entry}
-use Rattle.split_tree.specs.declared.event.Event.{Event}
-use Rattle.split_tree.specs.declared.event.Event.TheVariants.{Split}
-use Rattle.split_tree.specs.Journal.{Setting, nodes, nodes_of, splits_of}
-use Rattle.split_tree.specs.Paths.{branch, branch_to, is_leaf, splits_node, subject}
-use Rattle.split_tree.specs.Legal.{IsAsked, IsLegalJournal, IsChild}
-use Rattle.split_tree.proofs.Places.{node_there}
-use Rattle.split_tree.proofs.Branches.{branch_old}
-use Rattle.split_tree.proofs.Past.{splits_nodes}
-use Rattle.split_tree.proofs.States.{fresh_leaf}
+use Rattle.case_journal.specs.declared.event.Entry.{Entry}
+use Rattle.case_journal.specs.declared.event.Event.{Event}
+use Rattle.case_journal.specs.declared.event.Event.TheVariants.{Split}
+use Rattle.case_journal.specs.Journal.{Setting, nodes, nodes_of, splits_of}
+use Rattle.case_journal.specs.Paths.{branch, branch_to, is_leaf, splits_node, subject}
+use Rattle.case_journal.specs.Legal.{IsAsked, IsLegalJournal, IsChild}
+use Rattle.case_journal.specs.PlaceLaws.{split_there}
+use Rattle.case_journal.specs.BranchLaws.{branch_old}
+use Rattle.case_journal.specs.BoundLaws.{splits_nodes}
+use Rattle.case_journal.specs.FreshLaws.{fresh_leaf}
 
 -- how many pairs of children there are
 pub pairs : (past : List Entry) → (k : ℕ) × (nodes past ≡ 2 * k + 1)
@@ -46,7 +46,7 @@ split_pair : (s : Setting) (past : List Entry) → IsLegalJournal s past → (w 
 split_pair s past legal w (Split node lines put_off) m j p h odd =
     let count = nodes past in
     let q = eqb-true node m h in
-    let low = node_there s past legal w (Split node lines put_off) p in
+    let low = split_there s past legal w node lines put_off p in
     let one = Some (branch_to node (subject lines) 1) in
     let two = Some (branch_to node (subject lines) 2) in
     let x = 2 * j + 1 in

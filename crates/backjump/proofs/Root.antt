@@ -1,12 +1,12 @@
 -- The root is on each path.
 use Rattle.std.proofs.Common.{◌≡◌, ℕ, ◌<◌, true, eqb, List, [], ◌∷◌, arith, eq-eqb}
 use Rattle.std.proofs.lemmas.Bool.{or_right}
-use Rattle.split_tree.specs.declared.event.Entry.{Entry}
-use Rattle.split_tree.specs.Journal.{Setting, nodes}
-use Rattle.split_tree.specs.Paths.{stem, on_path}
-use Rattle.split_tree.specs.Facts.{IsLive}
-use Rattle.split_tree.specs.Legal.{IsLegalJournal}
-use Rattle.split_tree.proofs.Places.{stem_there}
+use Rattle.case_journal.specs.declared.event.Entry.{Entry}
+use Rattle.case_journal.specs.Journal.{Setting, nodes}
+use Rattle.case_journal.specs.Paths.{stem, on_path}
+use Rattle.case_journal.specs.Facts.{IsLive}
+use Rattle.case_journal.specs.Legal.{IsLegalJournal}
+use Rattle.case_journal.specs.PlaceLaws.{stem_there}
 use Rattle.backjump.proofs.Deaths.{dead_below}
 
 pub on_root : (s : Setting) (past : List Entry) → IsLegalJournal s past → (m : ℕ) → m < nodes past → on_path past m 0 ≡ true

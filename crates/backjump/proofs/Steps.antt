@@ -7,20 +7,20 @@ use Rattle.spl_terms.specs.Clauses.{is_empty}
 use Rattle.proof_steps.specs.declared.step.Line.{Line}
 use Rattle.proof_steps.specs.Steps.{numbered}
 use Rattle.proof_steps.specs.declared.step.Rule.TheVariants.{CaseBoth}
-use Rattle.split_tree.specs.declared.branch.Branch.{Branch}
-use Rattle.split_tree.specs.declared.event.Entry.{Entry}
-use Rattle.split_tree.specs.declared.event.Event.{Event}
-use Rattle.split_tree.specs.declared.event.Event.TheVariants.{Publish, Split}
-use Rattle.split_tree.specs.Journal.{Setting, nodes, nodes_of, steps, ledger}
-use Rattle.split_tree.specs.Paths.{on_path, branch, branch_by, branch_to, is_leaf, splits_node, owner, subject}
-use Rattle.split_tree.specs.Facts.{IsLive}
-use Rattle.split_tree.specs.Ending.{first_end}
-use Rattle.split_tree.specs.Legal.{IsAsked, IsLegal, IsLegalJournal, IsSettled, IsChild, IsFirstEmpty}
-use Rattle.split_tree.proofs.Branches.{branch_old}
-use Rattle.split_tree.proofs.Homes.{listed_within}
-use Rattle.split_tree.proofs.Depends.{split_listed}
-use Rattle.split_tree.proofs.Climb.{nodes_some, on_path-self}
-use Rattle.split_tree.proofs.Standing.{new_branch, parent_below}
+use Rattle.case_journal.specs.declared.branch.Branch.{Branch}
+use Rattle.case_journal.specs.declared.event.Entry.{Entry}
+use Rattle.case_journal.specs.declared.event.Event.{Event}
+use Rattle.case_journal.specs.declared.event.Event.TheVariants.{Publish, Split}
+use Rattle.case_journal.specs.Journal.{Setting, nodes, nodes_of, steps, ledger}
+use Rattle.case_journal.specs.Paths.{on_path, branch, branch_by, branch_to, is_leaf, splits_node, owner, subject}
+use Rattle.case_journal.specs.Facts.{IsLive}
+use Rattle.case_journal.specs.Ending.{first_end}
+use Rattle.case_journal.specs.Legal.{IsAsked, IsLegal, IsLegalJournal, IsSettled, IsChild, IsFirstEmpty}
+use Rattle.case_journal.specs.BranchLaws.{branch_old}
+use Rattle.case_journal.specs.ListedLaws.{listed_within}
+use Rattle.case_journal.specs.DependenceLaws.{split_listed}
+use Rattle.case_journal.specs.PathLaws.{nodes_some, on_path-self}
+use Rattle.case_journal.specs.StandingLaws.{new_branch, parent_below}
 use Rattle.backjump.specs.Cases.{IsCaseEntry, OnlyCloses, IsSettledAt, IsSettledAbove, CanClose, IsPairStep, IsClosingEvent, case_line}
 use Rattle.backjump.proofs.Deaths.{owner_on, on_path_le, with_line, new_empty, settled_after}
 use Rattle.backjump.proofs.Pairs.{HasPair, pairs, inner_pair}

@@ -6,16 +6,16 @@ use Rattle.dep_sets.specs.Assumptions.{united, without_assumption}
 use Rattle.proof_steps.specs.declared.step.Rule.TheVariants.{CaseBoth}
 use Rattle.proof_steps.specs.declared.step.Line.{Line}
 use Rattle.proof_steps.specs.Steps.{states, side_of}
-use Rattle.split_tree.specs.declared.event.Entry.{Entry}
-use Rattle.split_tree.specs.declared.event.Event.{Event}
-use Rattle.split_tree.specs.declared.event.Event.TheVariants.{Publish}
-use Rattle.split_tree.specs.declared.event.End.TheVariants.{Proved}
-use Rattle.split_tree.specs.declared.branch.Branch.{Branch}
-use Rattle.split_tree.specs.Journal.{Setting, nodes}
-use Rattle.split_tree.specs.Paths.{branch, owner}
-use Rattle.split_tree.specs.Facts.{IsLive}
-use Rattle.split_tree.specs.Ending.{first_end}
-use Rattle.split_tree.specs.Legal.{case_step, HasLiveChild, IsChild, IsFirstEmpty, IsLegal}
+use Rattle.case_journal.specs.declared.event.Entry.{Entry}
+use Rattle.case_journal.specs.declared.event.Event.{Event}
+use Rattle.case_journal.specs.declared.event.Event.TheVariants.{Publish}
+use Rattle.case_journal.specs.declared.event.End.TheVariants.{Proved}
+use Rattle.case_journal.specs.declared.branch.Branch.{Branch}
+use Rattle.case_journal.specs.Journal.{Setting, nodes}
+use Rattle.case_journal.specs.Paths.{branch, owner}
+use Rattle.case_journal.specs.Facts.{IsLive}
+use Rattle.case_journal.specs.Ending.{first_end}
+use Rattle.case_journal.specs.Legal.{case_step, HasLiveChild, IsChild, IsFirstEmpty, IsLegal}
 
 -- what both closed sides of a split depend on, but for the split, and what the split clause depends on
 abbrev pub joined_deps : ℕ → List Assumption → List Assumption → List Assumption → List Assumption

@@ -3,13 +3,13 @@ use Rattle.std.specs.Prelude.{◌≡◌, ℕ, ◌+◌, ◌-◌, ◌%◌, ◌==�
 use Rattle.dep_sets.specs.declared.deps.Assumption.{Assumption}
 use Rattle.proof_steps.specs.declared.step.Line.{Line}
 use Rattle.proof_steps.specs.Steps.{numbered}
-use Rattle.split_tree.specs.declared.branch.Branch.{Branch}
-use Rattle.split_tree.specs.declared.event.Entry.{Entry}
-use Rattle.split_tree.specs.declared.event.Event.{Event}
-use Rattle.split_tree.specs.declared.event.Event.TheVariants.{Publish}
-use Rattle.split_tree.specs.Journal.{Setting, nodes, ledger}
-use Rattle.split_tree.specs.Paths.{branch, owner}
-use Rattle.split_tree.specs.Legal.{IsLegalJournal, IsSettled, IsFirstEmpty}
+use Rattle.case_journal.specs.declared.branch.Branch.{Branch}
+use Rattle.case_journal.specs.declared.event.Entry.{Entry}
+use Rattle.case_journal.specs.declared.event.Event.{Event}
+use Rattle.case_journal.specs.declared.event.Event.TheVariants.{Publish}
+use Rattle.case_journal.specs.Journal.{Setting, nodes, ledger}
+use Rattle.case_journal.specs.Paths.{branch, owner}
+use Rattle.case_journal.specs.Legal.{IsLegalJournal, IsSettled, IsFirstEmpty}
 use Rattle.backjump.specs.Cases.{case_line, OnlyCloses, IsOpenOrProved}
 
 -- the journal after the worker has appended these events, one after another

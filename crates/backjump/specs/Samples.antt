@@ -3,9 +3,9 @@ use Rattle.std.specs.Prelude.{List, [], ◌∷◌, None}
 use Rattle.spl_terms.specs.declared.term.Kind.TheVariants.{Predicate}
 use Rattle.spl_terms.specs.declared.atom.Atom.{Atom}
 use Rattle.spl_terms.specs.declared.atom.Atom.TheVariants.{Holds}
-use Rattle.split_tree.specs.declared.event.Entry.{Entry}
-use Rattle.split_tree.specs.declared.event.Event.TheVariants.{Claim, Choose, Activate}
-use Rattle.split_tree.specs.Journal.{Setting}
+use Rattle.case_journal.specs.declared.event.Entry.{Entry}
+use Rattle.case_journal.specs.declared.event.Event.TheVariants.{Claim, Choose, Activate}
+use Rattle.case_journal.specs.Journal.{Setting}
 
 abbrev pub p : Atom
 p = Holds (record { number = 0; kind = Predicate }) []

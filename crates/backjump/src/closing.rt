@@ -3,20 +3,21 @@ ghost use Rattle.std.specs.Prelude.{◌≡◌, ℕ, ◌+◌, ◌<◌, ◌≤◌,
 ghost use Rattle.spl_terms.specs.Clauses.{is_empty};
 ghost use Rattle.proof_steps.specs.declared.step.Line.{Line};
 ghost use Rattle.proof_steps.specs.Steps.{numbered};
-ghost use Rattle.split_tree.specs.declared.event.Event.{Event};
-ghost use Rattle.split_tree.specs.declared.event.Event.TheVariants.{Publish};
-ghost use Rattle.split_tree.specs.Journal.{ledger, last_line, nodes, steps};
-ghost use Rattle.split_tree.specs.Facts.{IsLive};
-ghost use Rattle.split_tree.specs.Legal.{IsLegal, IsLegalJournal, IsSettled};
+ghost use Rattle.case_journal.specs.declared.event.Event.{Event};
+ghost use Rattle.case_journal.specs.declared.event.Event.TheVariants.{Publish};
+ghost use Rattle.case_journal.specs.Journal.{ledger, last_line, nodes, steps};
+ghost use Rattle.case_journal.specs.Facts.{IsLive};
+ghost use Rattle.case_journal.specs.Legal.{IsLegal, IsLegalJournal, IsSettled};
 ghost use Rattle.backjump.specs.Cases.{OnlyCloses, IsOpenOrProved};
 ghost use Rattle.backjump.specs.Plans.{appended, twin_of, sided_line, IsNextEvent, IsOneLine, IsPlan};
 
 use crate::case_step::case_line;
 use crate::settling::{publication, split_above};
+use case_journal::Event;
 use dep_sets::Deps;
 use proof_steps::Line;
 use spl_terms::Items;
-use split_tree::{Event, Table};
+use split_tree::Table;
 use std::alloc::{AllocError, Global};
 
 /// The number of the other child of the same parent, where there are so many nodes.
@@ -158,7 +159,7 @@ fn append_all(table: &mut Table, by: u32, events: Vec<Event>)
 ///
 /// # Errors
 ///
-/// Where there is no memory; all room is taken first, so nothing has been published then.
+/// Where there is no memory; all room is taken first, so the table is as it was then, its spare room too.
 pub fn close(
     alloc: Global,
     table: &mut Table,
@@ -173,7 +174,7 @@ pub fn close(
     ensures closes { OnOk result (OnlyCloses by (record { by = by; event = Publish node chain false } ∷ table.old.past) table.new.past) }
     ensures settled { OnOk result (IsSettled table.new.setting table.new.past) }
     ensures ended { OnOk result (IsOpenOrProved table.new.past) }
-    ensures err { OnErr result (table.new.past ≡ table.old.past) }
+    ensures err { OnErr result (table.new ≡ table.old) }
 {
     let _count = table.nodes();
     let events = planned(alloc, table, by, node, chain)?;

@@ -1,18 +1,19 @@
 //! Closing each live node both of whose children are dead.
 ghost use Rattle.std.specs.Prelude.{◌≡◌, ◌+◌, ◌*◌, ◌<◌, ◌≤◌, IfOk, OnOk, MatchOption, [], ◌∷◌, None, Some, false};
-ghost use Rattle.split_tree.specs.declared.branch.Branch.{Branch};
-ghost use Rattle.split_tree.specs.declared.event.Event.TheVariants.{Publish};
-ghost use Rattle.split_tree.specs.Journal.{nodes};
-ghost use Rattle.split_tree.specs.Paths.{branch, owner};
-ghost use Rattle.split_tree.specs.Facts.{IsLive};
-ghost use Rattle.split_tree.specs.Ending.{first_end};
-ghost use Rattle.split_tree.specs.Legal.{IsSettled};
+ghost use Rattle.case_journal.specs.declared.branch.Branch.{Branch};
+ghost use Rattle.case_journal.specs.declared.event.Event.TheVariants.{Publish};
+ghost use Rattle.case_journal.specs.Journal.{nodes};
+ghost use Rattle.case_journal.specs.Paths.{branch, owner};
+ghost use Rattle.case_journal.specs.Facts.{IsLive};
+ghost use Rattle.case_journal.specs.Ending.{first_end};
+ghost use Rattle.case_journal.specs.Legal.{IsSettled};
 ghost use Rattle.backjump.specs.Cases.{OnlyCloses, IsOpenOrProved, IsSettledAbove, CanClose, IsPairStep, IsClosingEvent};
 
 use crate::case_step::case_line;
+use case_journal::Event;
 use proof_steps::Line;
 use spl_terms::Items;
-use split_tree::{Event, Table};
+use split_tree::Table;
 use std::alloc::{AllocError, Global};
 
 /// A live node both of whose children are dead.

@@ -8,10 +8,10 @@ use Rattle.spl_truth.specs.declared.picking.Candidate.{Candidate}
 use Rattle.spl_truth.specs.Picking.{better, preferred, is_older, is_lighter}
 use Rattle.proof_steps.specs.declared.step.Line.{Line}
 use Rattle.proof_steps.specs.Steps.{numbered}
-use Rattle.split_tree.specs.declared.event.Entry.{Entry}
-use Rattle.split_tree.specs.Journal.{Setting, ledger}
-use Rattle.split_tree.specs.Picking.{is_passive, passing, weighed}
-use Rattle.split_tree.proofs.Picks.{IsOne}
+use Rattle.case_journal.specs.declared.event.Entry.{Entry}
+use Rattle.case_journal.specs.Journal.{Setting, ledger}
+use Rattle.case_journal.specs.Picking.{is_passive, passing, weighed}
+use Rattle.case_journal.specs.PickLaws.{IsOne}
 use Rattle.case_queue.specs.Queues.{best_by}
 
 -- ---- the better of two

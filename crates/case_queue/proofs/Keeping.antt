@@ -3,9 +3,9 @@ use Rattle.std.proofs.Common.{◌≡◌, ◌∙◌, ℕ, ◌<◌, ◌≤◌, inl
 use Rattle.std.proofs.lemmas.Bool.{cases_Bool}
 use Rattle.std.proofs.lemmas.List.Elements.{All-weaker}
 use Rattle.std.specs.List.{slice_get}
-use Rattle.split_tree.specs.declared.event.Entry.{Entry}
-use Rattle.split_tree.specs.Journal.{Setting, ledger, steps}
-use Rattle.split_tree.specs.Picking.{is_passive}
+use Rattle.case_journal.specs.declared.event.Entry.{Entry}
+use Rattle.case_journal.specs.Journal.{Setting, ledger, steps}
+use Rattle.case_journal.specs.Picking.{is_passive}
 use Rattle.case_queue.specs.declared.queue.CaseQueue.{CaseQueue}
 use Rattle.case_queue.specs.Queues.{HasFirst, IsEntry, entries}
 use Rattle.case_queue.proofs.Lines.{numbered_some, numbered_within, numbered_same}

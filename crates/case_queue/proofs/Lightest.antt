@@ -8,9 +8,9 @@ use Rattle.std.proofs.lemmas.List.Elements.{All-head, All-map, All-contains, All
 use Rattle.spl_terms.specs.Clauses.{clause_symbols}
 use Rattle.proof_steps.specs.declared.step.Line.{Line}
 use Rattle.proof_steps.specs.Steps.{numbered}
-use Rattle.split_tree.specs.declared.event.Entry.{Entry}
-use Rattle.split_tree.specs.Journal.{Setting, ledger, steps}
-use Rattle.split_tree.specs.Picking.{is_passive, weighed}
+use Rattle.case_journal.specs.declared.event.Entry.{Entry}
+use Rattle.case_journal.specs.Journal.{Setting, ledger, steps}
+use Rattle.case_journal.specs.Picking.{is_passive, weighed}
 use Rattle.case_queue.specs.declared.queue.CaseQueue.{CaseQueue}
 use Rattle.case_queue.specs.Queues.{HasFirst, HasQueue, IsEntry, IsTop, by_weight, entries, best_by}
 use Rattle.case_queue.proofs.Lines.{numbered_within, numbered_once}

@@ -3,9 +3,9 @@ use Rattle.std.proofs.Common.{◌≡◌, ◌∙◌, ℕ, ◌<◌, ◌≤◌, inl
 use Rattle.std.proofs.lemmas.Bool.{cases_lt}
 use Rattle.std.proofs.lemmas.Bool.Decides.{nat_tests}
 use Rattle.proof_steps.specs.declared.step.Line.{Line}
-use Rattle.split_tree.specs.declared.event.Entry.{Entry}
-use Rattle.split_tree.specs.Journal.{Setting, ledger, steps}
-use Rattle.split_tree.specs.Picking.{is_passive, weighed}
+use Rattle.case_journal.specs.declared.event.Entry.{Entry}
+use Rattle.case_journal.specs.Journal.{Setting, ledger, steps}
+use Rattle.case_journal.specs.Picking.{is_passive, weighed}
 use Rattle.case_queue.specs.Queues.{best_by}
 use Rattle.case_queue.proofs.Lines.{numbered_some, numbered_within, numbered_there, numbered_once}
 use Rattle.case_queue.proofs.Best.{IsFirstTo, best_is, best_none}

@@ -8,9 +8,9 @@ use Rattle.spl_terms.specs.Clauses.{clause_symbols}
 use Rattle.spl_truth.specs.Picking.{better}
 use Rattle.proof_steps.specs.declared.step.Line.{Line}
 use Rattle.proof_steps.specs.Steps.{numbered}
-use Rattle.split_tree.specs.declared.event.Entry.{Entry}
-use Rattle.split_tree.specs.Journal.{Setting, ledger, steps}
-use Rattle.split_tree.specs.Picking.{is_passive, passive}
+use Rattle.case_journal.specs.declared.event.Entry.{Entry}
+use Rattle.case_journal.specs.Journal.{Setting, ledger, steps}
+use Rattle.case_journal.specs.Picking.{is_passive, passive}
 use Rattle.case_queue.specs.declared.queue.CaseQueue.{CaseQueue}
 
 -- symbols and number of each clause in the heap, in no order

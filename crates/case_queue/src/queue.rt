@@ -1,7 +1,7 @@
 //! Adding clauses to the queue, and taking out of it what is chosen next.
 ghost use Rattle.std.specs.Prelude.{◌≡◌, ℕ, ◌-◌, ◌<◌, ◌≤◌, true, false, [], MatchOption, OnOk};
-ghost use Rattle.split_tree.specs.Journal.{nodes, steps};
-ghost use Rattle.split_tree.specs.Picking.{pick_at};
+ghost use Rattle.case_journal.specs.Journal.{nodes, steps};
+ghost use Rattle.case_journal.specs.Picking.{pick_at};
 ghost use Rattle.case_queue.specs.Queues.{entries, best_by, HasFirst, HasQueue, HasPassive, PutsPassive, IsTop};
 
 use spl_terms::symbols_of;

@@ -3,13 +3,13 @@ use Rattle.std.proofs.Common.{◌≡◌, inr, ℕ, zero, suc, ◌+◌, ◌<◌, 
 use Rattle.proof_steps.specs.declared.step.Line.{Line}
 use Rattle.proof_steps.specs.Parts.{Parted, parts_of}
 use Rattle.proof_steps.specs.Steps.{numbered}
-use Rattle.split_tree.specs.declared.event.Entry.{Entry}
-use Rattle.split_tree.specs.declared.event.Event.TheVariants.{Split, Full}
-use Rattle.split_tree.specs.Journal.{Setting, ledger, splits, counted}
-use Rattle.split_tree.specs.Facts.{chosen, kept, Holds}
-use Rattle.split_tree.specs.Ending.{first_end}
-use Rattle.split_tree.specs.Legal.{assume_steps, IsLegal, IsLegalJournal, IsSettled, IsSplittable}
-use Rattle.split_tree.proofs.Homes.{listed_within}
+use Rattle.case_journal.specs.declared.event.Entry.{Entry}
+use Rattle.case_journal.specs.declared.event.Event.TheVariants.{Split, Full}
+use Rattle.case_journal.specs.Journal.{Setting, ledger, splits, counted}
+use Rattle.case_journal.specs.Facts.{chosen, kept, Holds}
+use Rattle.case_journal.specs.Ending.{first_end}
+use Rattle.case_journal.specs.Legal.{assume_steps, IsLegal, IsLegalJournal, IsSettled, IsSplittable}
+use Rattle.case_journal.specs.ListedLaws.{listed_within}
 use Rattle.clause_splitting.specs.Splitting.{AreConcluded}
 use Rattle.clause_splitting.proofs.Lines.{counted_lines, none_put}
 

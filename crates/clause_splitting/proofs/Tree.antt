@@ -8,19 +8,19 @@ use Rattle.proof_steps.specs.declared.step.Statement.{Statement}
 use Rattle.proof_steps.specs.declared.step.Line.{Line}
 use Rattle.proof_steps.specs.Steps.{conclude, assumed, states, side_of}
 use Rattle.proof_steps.specs.Checked.{stated}
-use Rattle.split_tree.specs.declared.event.Entry.{Entry}
-use Rattle.split_tree.specs.declared.event.Event.TheVariants.{Split}
-use Rattle.split_tree.specs.Journal.{Setting, ledger, nodes, steps}
-use Rattle.split_tree.specs.Paths.{stem, on_path, branch, branch_to, is_leaf, subject}
-use Rattle.split_tree.specs.Facts.{lists, listed, IsDead, IsLive}
-use Rattle.split_tree.specs.Legal.{assume, IsLegalJournal, IsSplittable, IsSettled, HasLiveChild}
-use Rattle.split_tree.proofs.Branches.{branch_old}
-use Rattle.split_tree.proofs.Climb.{stem_old, stem_high}
-use Rattle.split_tree.proofs.Depends.{listed_after, numbered_old, numbered_new}
-use Rattle.split_tree.proofs.Homes.{listed_within}
-use Rattle.split_tree.proofs.Ledger.{numbered_more}
-use Rattle.split_tree.proofs.Standing.{split_here}
-use Rattle.split_tree.proofs.States.{fresh_leaf}
+use Rattle.case_journal.specs.declared.event.Entry.{Entry}
+use Rattle.case_journal.specs.declared.event.Event.TheVariants.{Split}
+use Rattle.case_journal.specs.Journal.{Setting, ledger, nodes, steps}
+use Rattle.case_journal.specs.Paths.{stem, on_path, branch, branch_to, is_leaf, subject}
+use Rattle.case_journal.specs.Facts.{lists, listed, IsDead, IsLive}
+use Rattle.case_journal.specs.Legal.{assume, IsLegalJournal, IsSplittable, IsSettled, HasLiveChild}
+use Rattle.case_journal.specs.BranchLaws.{branch_old}
+use Rattle.case_journal.specs.PathLaws.{stem_old, stem_high}
+use Rattle.case_journal.specs.DependenceLaws.{listed_after, numbered_old, numbered_new}
+use Rattle.case_journal.specs.ListedLaws.{listed_within}
+use Rattle.case_journal.specs.LedgerLaws.{numbered_more}
+use Rattle.case_journal.specs.StandingLaws.{split_here}
+use Rattle.case_journal.specs.FreshLaws.{fresh_leaf}
 use Rattle.clause_splitting.proofs.Left.{left_full}
 use Rattle.clause_splitting.proofs.Lines.{assume_concludes}
 

@@ -4,10 +4,10 @@ use Rattle.proof_steps.specs.declared.step.Line.{Line}
 use Rattle.proof_steps.specs.Parts.{Parted, parts_of}
 use Rattle.proof_steps.specs.Steps.{numbered, within, assumption_of}
 use Rattle.proof_steps.specs.Checked.{IsConclusion, stated}
-use Rattle.split_tree.specs.declared.event.Entry.{Entry}
-use Rattle.split_tree.specs.declared.event.Event.TheVariants.{Split, Full}
-use Rattle.split_tree.specs.Journal.{Setting, ledger}
-use Rattle.split_tree.specs.Legal.{assume, IsSettled}
+use Rattle.case_journal.specs.declared.event.Entry.{Entry}
+use Rattle.case_journal.specs.declared.event.Event.TheVariants.{Split, Full}
+use Rattle.case_journal.specs.Journal.{Setting, ledger}
+use Rattle.case_journal.specs.Legal.{assume, IsSettled}
 use Rattle.split_tree.specs.State.{State}
 
 -- the new journal is the old one with a Split of the node by the worker, and the tree is settled

@@ -4,15 +4,16 @@ ghost use Rattle.spl_terms.specs.Clauses.{atoms_of};
 ghost use Rattle.proof_steps.specs.declared.step.Line.{Line};
 ghost use Rattle.proof_steps.specs.Parts.{parts_of};
 ghost use Rattle.proof_steps.specs.Steps.{numbered};
-ghost use Rattle.split_tree.specs.Journal.{ledger, splits, steps};
-ghost use Rattle.split_tree.specs.Facts.{chosen, kept, Holds};
-ghost use Rattle.split_tree.specs.Ending.{first_end};
-ghost use Rattle.split_tree.specs.Legal.{assume_steps, negations, IsSettled};
+ghost use Rattle.case_journal.specs.Journal.{ledger, splits, steps};
+ghost use Rattle.case_journal.specs.Facts.{chosen, kept, Holds};
+ghost use Rattle.case_journal.specs.Ending.{first_end};
+ghost use Rattle.case_journal.specs.Legal.{assume_steps, negations, IsSettled};
 ghost use Rattle.clause_splitting.specs.Splitting.{IsSplitBy, IsFullBy, ArePartsOf, CanAssume, AreConcluded, IsAssumeLine};
 
+use case_journal::Event;
 use proof_steps::{Line, Parts, Rule, Step, assume};
 use spl_terms::{Clause, Items};
-use split_tree::{Event, Table};
+use split_tree::Table;
 use std::alloc::{AllocError, Global};
 
 /// The line that assumes a side of the split of the clause or, with a number, the negation of that atom of the left
@@ -124,7 +125,7 @@ fn none_put_off(alloc: Global, count: usize) -> Result<Items<bool>, AllocError>
 ///
 /// # Errors
 ///
-/// Where there is no memory, or node or clause numbers would not fit; then nothing has been appended.
+/// Where there is no memory, or node or clause numbers would not fit; then the table is as it was, its spare room too.
 pub fn split(
     alloc: Global,
     table: &mut Table,
@@ -144,7 +145,7 @@ pub fn split(
     requires parted { (l : Line) → numbered (ledger table.old.setting table.old.past) clause ≡ Some l → parts_of l.stated.clause ≡ Some parts.now }
     ensures setting { table.new.setting ≡ table.old.setting }
     ensures done { IfOk result (λ done. MatchBool done (IsSplitBy by node table.old table.new) (IsFullBy by node table.old table.new)) }
-    ensures err { OnErr result (table.new.past ≡ table.old.past) }
+    ensures err { OnErr result (table.new ≡ table.old) }
 {
     table.journal_is_legal();
     let steps = assume_lines(alloc, table, clause, parts)?;

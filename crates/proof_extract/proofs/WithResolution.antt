@@ -9,14 +9,14 @@ use Rattle.spl_terms.specs.declared.clause.Clause.{Clause}
 use Rattle.spl_terms.specs.Clauses.{is_empty, renumbered}
 use Rattle.proof_steps.specs.declared.step.Line.{Line}
 use Rattle.proof_steps.specs.Steps.{numbered, ground_resolve, states}
-use Rattle.split_tree.specs.declared.event.Entry.{Entry}
-use Rattle.split_tree.specs.declared.event.Event.{Event}
-use Rattle.split_tree.specs.declared.event.Event.TheVariants.{Claim, Choose, Publish, Activate}
-use Rattle.split_tree.specs.Journal.{Setting, input_line}
-use Rattle.split_tree.specs.Facts.{Holds as Holder}
-use Rattle.split_tree.specs.Legal.{IsLegal}
-use Rattle.split_tree.proofs.Legals.{settled_root}
-use Rattle.split_tree.proofs.Positive.{positive_alone}
+use Rattle.case_journal.specs.declared.event.Entry.{Entry}
+use Rattle.case_journal.specs.declared.event.Event.{Event}
+use Rattle.case_journal.specs.declared.event.Event.TheVariants.{Claim, Choose, Publish, Activate}
+use Rattle.case_journal.specs.Journal.{Setting, input_line}
+use Rattle.case_journal.specs.Facts.{Holds as Holder}
+use Rattle.case_journal.specs.Legal.{IsLegal}
+use Rattle.case_journal.specs.RootLaws.{settled_root}
+use Rattle.case_journal.specs.ResolutionLaws.{positive_alone}
 
 abbrev pub atom : ℕ → Atom
 atom number = Holds (record { number = number; kind = Predicate }) []

@@ -7,11 +7,11 @@ use Rattle.proof_steps.specs.declared.step.Line.{Line}
 use Rattle.proof_steps.specs.Parts.{Parted}
 use Rattle.proof_steps.specs.Steps.{numbered, states, side_of}
 use Rattle.proof_steps.specs.Checked.{IsConclusion, stated}
-use Rattle.split_tree.specs.declared.event.Event.{Event}
-use Rattle.split_tree.specs.declared.event.Event.TheVariants.{Choose, Split}
-use Rattle.split_tree.specs.Journal.{Setting, input_line, ledger}
-use Rattle.split_tree.specs.Legal.{IsLegal, assume}
-use Rattle.split_tree.proofs.Legals.{settled_root}
+use Rattle.case_journal.specs.declared.event.Event.{Event}
+use Rattle.case_journal.specs.declared.event.Event.TheVariants.{Choose, Split}
+use Rattle.case_journal.specs.Journal.{Setting, input_line, ledger}
+use Rattle.case_journal.specs.Legal.{IsLegal, assume}
+use Rattle.case_journal.specs.RootLaws.{settled_root}
 use Rattle.proof_extract.proofs.WithResolution.{atom, positive, negative, other, claimed, chosen}
 
 abbrev pub either : Clause

@@ -3,7 +3,7 @@ ghost use Rattle.std.specs.Prelude.{◌≡◌, ◌≤◌, ◌<◌, ◌^◌, ◌+
 ghost use Rattle.spl_truth.specs.Truth.{Refuted};
 ghost use Rattle.proof_steps.specs.Steps.{numbered};
 ghost use Rattle.proof_steps.specs.Checked.{AreConclusions, Checked};
-ghost use Rattle.split_tree.specs.Journal.{ledger, steps};
+ghost use Rattle.case_journal.specs.Journal.{ledger, steps};
 ghost use Rattle.proof_extract.specs.Extracting.{AreSplitsMarked, new_number, extracted, IsProofOf};
 ghost use Rattle.proof_extract.specs.Marking.{counts_from, taken};
 ghost use Rattle.proof_extract.specs.Contradictions.{IsContradictory};

@@ -1,6 +1,6 @@
 //! Which lines lead to a clause, and which numbers they get.
 ghost use Rattle.std.specs.Prelude.{◌≡◌, ◌+◌, ◌∷◌, ◌<◌, ◌≤◌, ◌^◌, [], length, IfOk};
-ghost use Rattle.split_tree.specs.Journal.{ledger, steps};
+ghost use Rattle.case_journal.specs.Journal.{ledger, steps};
 ghost use Rattle.proof_extract.specs.Extracting.{AreAncestors, marked_count};
 ghost use Rattle.proof_extract.specs.Marking.{Marks, MarksParents, counts_from};
 

@@ -1,7 +1,7 @@
 //! The contradictions of a ledger.
 ghost use Rattle.std.specs.Prelude.{ℕ, ◌↔◌, IsTrue, MatchOption};
 ghost use Rattle.proof_steps.specs.Checked.{IsContradiction};
-ghost use Rattle.split_tree.specs.Journal.{ledger};
+ghost use Rattle.case_journal.specs.Journal.{ledger};
 ghost use Rattle.proof_extract.specs.Contradictions.{IsContradictory, IsFirstContradiction};
 
 use proof_steps::Statement;

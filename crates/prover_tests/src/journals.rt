@@ -3,7 +3,8 @@ use crate::makers::{
     CASE_CLAUSES, CASE_SYMBOLS, HEAD, JUMP_CLAUSES, JUMP_SYMBOLS, TWO_CLAUSES, TWO_SYMBOLS,
     problem, proved,
 };
-use split_tree::{Event, Limits, Table};
+use case_journal::{Event, Limits};
+use split_tree::Table;
 use std::test::Fail;
 
 /// A kind of event at the root, or another one.

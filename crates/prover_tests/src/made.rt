@@ -1,7 +1,7 @@
 //! Made problems: clauses at the limit of symbols, many clauses, and pigeons in holes.
 use crate::journals::ends_by_cases;
 use crate::makers::{problem, proved, run};
-use split_tree::End;
+use case_journal::End;
 use std::alloc::Global;
 use std::test::Fail;
 

@@ -5,11 +5,11 @@ use Rattle.outside_io.specs.Outside.{Rose, CameWhole, CamePast, count_after}
 use Rattle.spl_terms.specs.declared.clause.Clause.{Clause}
 use Rattle.spl_symbols.specs.Symbols.{Declared}
 use Rattle.proof_steps.specs.declared.step.Line.{Line}
-use Rattle.split_tree.specs.declared.event.Limits.{Limits}
-use Rattle.split_tree.specs.declared.event.End.{End}
-use Rattle.split_tree.specs.declared.event.End.TheVariants as ends
+use Rattle.case_journal.specs.declared.event.Limits.{Limits}
+use Rattle.case_journal.specs.declared.event.End.{End}
+use Rattle.case_journal.specs.declared.event.End.TheVariants as ends
 use Rattle.split_tree.specs.State.{State}
-use Rattle.split_tree.specs.Ending.{reason}
+use Rattle.case_journal.specs.Ending.{reason}
 use Rattle.dfg_reader.specs.GroundClauses.{clauses}
 use Rattle.prover_top.specs.declared.answers.Answer.{Answer}
 use Rattle.prover_top.specs.declared.answers.Answer.TheVariants.{ProofFound, Completion, Rounds, Steps, Size, Words, Input, TooLong, ReadFault, Memory}

@@ -5,7 +5,7 @@ use Rattle.std.proofs.lemmas.List.{append-nil}
 use Rattle.outside_io.specs.Outside.{Rose, CameWhole, CamePast, count_after}
 use Rattle.spl_symbols.specs.Symbols.{Declared}
 use Rattle.proof_steps.specs.declared.step.Line.{Line}
-use Rattle.split_tree.specs.declared.event.Limits.{Limits}
+use Rattle.case_journal.specs.declared.event.Limits.{Limits}
 use Rattle.split_tree.specs.State.{State}
 use Rattle.dfg_reader.specs.declared.fault.ReadFault.{ReadFault as Fault}
 use Rattle.dfg_reader.specs.declared.problem.Problem.{Problem}

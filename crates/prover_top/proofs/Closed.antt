@@ -11,20 +11,20 @@ use Rattle.spl_truth.specs.Picking.{better, preferred, is_fifth}
 use Rattle.proof_steps.specs.declared.step.Line.{Line}
 use Rattle.proof_steps.specs.Steps.{numbered, resolution, from_two, of_two}
 use Rattle.proof_steps.specs.Checked.{resolution_of_lines, stated}
-use Rattle.proof_steps.specs.Covering.{IsCoveredBy, AreCoveredBy}
-use Rattle.split_tree.specs.declared.event.Entry.{Entry}
-use Rattle.split_tree.specs.declared.event.Event.{Event}
-use Rattle.split_tree.specs.declared.event.Event.TheVariants.{Activate}
-use Rattle.split_tree.specs.Journal.{Setting, ledger, lines_of, nodes, nodes_of, steps}
-use Rattle.split_tree.specs.Paths.{stem, on_path}
-use Rattle.split_tree.specs.Facts.{listed, lists, kept, worked, split, chosen, activates, is_number}
-use Rattle.split_tree.specs.Picking.{is_passive, passing, passive, pick_at, choices, weighed}
-use Rattle.split_tree.specs.Legal.{IsAsked, IsLegalJournal, IsPartner, IsPair, IsListed}
-use Rattle.split_tree.proofs.Homes.{listed_within}
-use Rattle.split_tree.proofs.Lists.{get_more, get_left}
-use Rattle.split_tree.proofs.Climb.{leaf_path}
-use Rattle.split_tree.proofs.Places.{stem_there}
-use Rattle.split_tree.proofs.Depends.{chosen_listed}
+use Rattle.proof_steps.specs.Covering.{IsSubsumedByOne, IsCoveredBy, AreCoveredBy}
+use Rattle.case_journal.specs.declared.event.Entry.{Entry}
+use Rattle.case_journal.specs.declared.event.Event.{Event}
+use Rattle.case_journal.specs.declared.event.Event.TheVariants.{Choose, Publish, Split, Activate}
+use Rattle.case_journal.specs.Journal.{Setting, ledger, lines_of, nodes, nodes_of, steps}
+use Rattle.case_journal.specs.Paths.{stem, on_path}
+use Rattle.case_journal.specs.Facts.{listed, lists, kept, worked, split, chosen, chosen_by, activates, is_number}
+use Rattle.case_journal.specs.Picking.{is_passive, passing, passive, pick_at, choices, weighed}
+use Rattle.case_journal.specs.Legal.{IsAsked, IsLegalJournal, IsPartner, IsPair, IsListedAs, IsListed}
+use Rattle.case_journal.specs.ListedLaws.{listed_within}
+use Rattle.case_journal.specs.ListLaws.{get_more, get_left}
+use Rattle.case_journal.specs.PathLaws.{leaf_path}
+use Rattle.case_journal.specs.PlaceLaws.{stem_there}
+use Rattle.case_journal.specs.DependenceLaws.{chosen_listed}
 use Rattle.prover_top.specs.Endings.{IsClosed}
 
 or_cases : (a b : Bool) → (a || b) ≡ true → (a ≡ true) ⊎ (b ≡ true)

@@ -10,11 +10,11 @@ use Rattle.dep_sets.specs.declared.deps.Assumption.{Assumption}
 use Rattle.proof_steps.specs.declared.step.Statement.{Statement}
 use Rattle.proof_steps.specs.declared.step.Line.{Line}
 use Rattle.proof_steps.specs.Checked.{IsContradiction}
-use Rattle.split_tree.specs.declared.event.Entry.{Entry}
-use Rattle.split_tree.specs.Journal.{Setting, ledger, lines_of, input_line, input_lines, last_line}
+use Rattle.case_journal.specs.declared.event.Entry.{Entry}
+use Rattle.case_journal.specs.Journal.{Setting, ledger, lines_of, input_line, input_lines, last_line, steps}
 use Rattle.split_tree.specs.State.{State}
-use Rattle.split_tree.proofs.Lists.{get_more, get_right}
-use Rattle.split_tree.specs.Ending.{no_assumptions, is_contradiction, states_contradiction, has_empty}
+use Rattle.case_journal.specs.ListLaws.{get_more, get_right}
+use Rattle.case_journal.specs.Ending.{no_assumptions, is_contradiction, states_contradiction, ends_contradictory, has_empty}
 use Rattle.proof_extract.specs.Contradictions.{IsContradictory}
 use Rattle.prover_top.specs.Endings.{IsContradicted}
 

@@ -4,17 +4,17 @@ use Rattle.std.specs.Prelude.{IsSome, ⊤, if◌then◌else◌}
 use Rattle.std.specs.List.{AllByRecursion}
 use Rattle.std.proofs.lemmas.Bool.{false≢true}
 use Rattle.proof_steps.specs.declared.step.Line.{Line}
-use Rattle.split_tree.specs.declared.event.Entry.{Entry}
-use Rattle.split_tree.specs.declared.event.Event.{Event}
-use Rattle.split_tree.specs.declared.event.Event.TheVariants.{Claim, Choose, Publish, Split, Activate, Saturated, Spent, Big, Full, Stop}
-use Rattle.split_tree.specs.declared.event.End.{End}
-use Rattle.split_tree.specs.declared.event.End.TheVariants as ends
-use Rattle.split_tree.specs.Journal.{Setting, ledger, nodes, steps}
+use Rattle.case_journal.specs.declared.event.Entry.{Entry}
+use Rattle.case_journal.specs.declared.event.Event.{Event}
+use Rattle.case_journal.specs.declared.event.Event.TheVariants.{Claim, Choose, Publish, Split, Activate, Saturated, Spent, Big, Full, Stop}
+use Rattle.case_journal.specs.declared.event.End.{End}
+use Rattle.case_journal.specs.declared.event.End.TheVariants as ends
+use Rattle.case_journal.specs.Journal.{Setting, ledger, lines_of, nodes, nodes_of, steps}
 use Rattle.split_tree.specs.State.{State}
-use Rattle.split_tree.specs.Facts.{is_stop, kept}
-use Rattle.split_tree.specs.Ending.{end_by, or_else, first_end, has_empty, ends_contradictory, reason}
-use Rattle.split_tree.specs.Legal.{IsLegal, IsLegalJournal}
-use Rattle.split_tree.proofs.Places.{claimed_within}
+use Rattle.case_journal.specs.Facts.{is_stop, kept}
+use Rattle.case_journal.specs.Ending.{end_by, or_else, first_end, has_empty, ends_contradictory, reason}
+use Rattle.case_journal.specs.Legal.{IsLegal, IsLegalJournal}
+use Rattle.case_journal.specs.PlaceLaws.{claimed_within}
 use Rattle.prover_top.specs.declared.answers.Answer.{Answer}
 use Rattle.prover_top.specs.declared.answers.Answer.TheVariants as answers
 use Rattle.prover_top.specs.Endings.{EndsBy, IsContradicted, kept_among, kept_count, IsComplete, IsSpent, IsFull, IsLarge}

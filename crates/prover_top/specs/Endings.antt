@@ -2,14 +2,14 @@
 use Rattle.std.specs.Prelude.{◌≡◌, ◌⊎◌, ℕ, Bool, zero, suc, ◌+◌, true, ◌||◌, if◌then◌else◌, List, ◌∷◌, ◌++◌, None, IsSome}
 use Rattle.proof_steps.specs.declared.step.Line.{Line}
 use Rattle.proof_steps.specs.Covering.{AreCoveredBy}
-use Rattle.split_tree.specs.declared.event.Entry.{Entry}
-use Rattle.split_tree.specs.declared.event.Event.{Event}
-use Rattle.split_tree.specs.declared.event.Event.TheVariants.{Publish, Saturated, Spent, Big, Full}
-use Rattle.split_tree.specs.Journal.{Setting, ledger, steps, rounds}
+use Rattle.case_journal.specs.declared.event.Entry.{Entry}
+use Rattle.case_journal.specs.declared.event.Event.{Event}
+use Rattle.case_journal.specs.declared.event.Event.TheVariants.{Publish, Saturated, Spent, Big, Full}
+use Rattle.case_journal.specs.Journal.{Setting, ledger, steps, rounds}
 use Rattle.split_tree.specs.State.{State}
-use Rattle.split_tree.specs.Facts.{kept, worked, split}
-use Rattle.split_tree.specs.Ending.{end_by, first_end, has_empty, ends_contradictory}
-use Rattle.split_tree.specs.Legal.{IsPartner, IsListed, IsLegal}
+use Rattle.case_journal.specs.Facts.{kept, worked, split}
+use Rattle.case_journal.specs.Ending.{end_by, first_end, has_empty, ends_contradictory}
+use Rattle.case_journal.specs.Legal.{IsPartner, IsListed, IsLegal}
 
 -- the entry is the first that ends the journal, and was appended to the past `before`
 pub record IsFirstEnding (past before : List Entry) (e : Entry) : Type 0 where

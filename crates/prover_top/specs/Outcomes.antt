@@ -7,13 +7,13 @@ use Rattle.spl_truth.specs.Truth.{Refuted}
 use Rattle.spl_symbols.specs.Symbols.{Declared}
 use Rattle.proof_steps.specs.declared.step.Line.{Line}
 use Rattle.proof_steps.specs.Checked.{Checked}
-use Rattle.split_tree.specs.declared.event.Limits.{Limits}
-use Rattle.split_tree.specs.declared.event.End.{End}
-use Rattle.split_tree.specs.declared.event.End.TheVariants as ends
-use Rattle.split_tree.specs.Journal.{ledger}
+use Rattle.case_journal.specs.declared.event.Limits.{Limits}
+use Rattle.case_journal.specs.declared.event.End.{End}
+use Rattle.case_journal.specs.declared.event.End.TheVariants as ends
+use Rattle.case_journal.specs.Journal.{ledger}
 use Rattle.split_tree.specs.State.{State}
-use Rattle.split_tree.specs.Ending.{reason}
-use Rattle.split_tree.specs.Legal.{IsLegalJournal}
+use Rattle.case_journal.specs.Ending.{reason}
+use Rattle.case_journal.specs.Legal.{IsLegalJournal}
 use Rattle.proof_extract.specs.Extracting.{IsProofOf}
 use Rattle.proof_extract.specs.Contradictions.{IsFirstContradiction}
 use Rattle.dfg_reader.specs.declared.fault.ReadFault.{ReadFault}

@@ -2,10 +2,10 @@
 use Rattle.std.specs.Prelude.{◌≡◌, ◌⊎◌, ℕ, Bool, List, codes, Option, Some, IsSome, Ok, Err, MatchResult, ⊤}
 use Rattle.spl_symbols.specs.Symbols.{Declared}
 use Rattle.proof_steps.specs.declared.step.Line.{Line}
-use Rattle.split_tree.specs.declared.event.Limits.{Limits}
+use Rattle.case_journal.specs.declared.event.Limits.{Limits}
 use Rattle.split_tree.specs.State.{State}
-use Rattle.split_tree.specs.Ending.{reason}
-use Rattle.split_tree.specs.Legal.{IsLegalJournal}
+use Rattle.case_journal.specs.Ending.{reason}
+use Rattle.case_journal.specs.Legal.{IsLegalJournal}
 use Rattle.dfg_reader.specs.declared.fault.ReadFault.{ReadFault}
 use Rattle.dfg_reader.specs.declared.problem.Problem.{Problem}
 use Rattle.dfg_reader.specs.Problems.{problem}

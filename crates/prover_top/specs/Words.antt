@@ -4,7 +4,7 @@ use Rattle.std.specs.List.{list_all}
 use Rattle.std.specs.Str.{bytes_eq}
 use Rattle.std.specs.Str.Parse.{digits_value}
 use Rattle.std.specs.Char.{digit_value}
-use Rattle.split_tree.specs.declared.event.Limits.{Limits}
+use Rattle.case_journal.specs.declared.event.Limits.{Limits}
 use Rattle.prover_top.specs.declared.words.Given.{Given}
 
 -- an ASCII digit: its value as a digit is below ten, where letters have the values from ten on

@@ -1,20 +1,21 @@
 //! Proving: a table, one worker's events, and what their journal says.
 ghost use Rattle.std.specs.Prelude.{◌≡◌, ◌<◌, ◌≤◌, ◌^◌, [], length, IfOk, IfSome, IsSome, None, Some};
 ghost use Rattle.spl_truth.specs.Truth.{Refuted};
-ghost use Rattle.split_tree.specs.declared.event.End.TheVariants.{Proved};
-ghost use Rattle.split_tree.specs.Journal.{ledger, nodes, steps};
-ghost use Rattle.split_tree.specs.Ending.{reason};
-ghost use Rattle.split_tree.specs.Legal.{IsLegalJournal};
+ghost use Rattle.case_journal.specs.declared.event.End.TheVariants.{Proved};
+ghost use Rattle.case_journal.specs.Journal.{ledger, nodes, steps};
+ghost use Rattle.case_journal.specs.Ending.{reason};
+ghost use Rattle.case_journal.specs.Legal.{IsLegalJournal};
 ghost use Rattle.proof_extract.specs.Extracting.{IsProofOf};
 ghost use Rattle.proof_extract.specs.Contradictions.{IsFirstContradiction};
 ghost use Rattle.prover_top.specs.Endings.{kept_among, kept_count};
 ghost use Rattle.prover_top.specs.Outcomes.{IsTableOf, IsProved, answer_of, IsAnswered, IsDecided};
 
 use crate::answers::Answer;
+use case_journal::End;
 use proof_extract::{extract, first_contradiction};
 use proof_steps::Line;
 use spl_terms::Items;
-use split_tree::{End, Table};
+use split_tree::Table;
 use std::alloc::{AllocError, Global};
 use worker_cases::alone;
 

@@ -16,10 +16,11 @@ use crate::answers::Answer;
 use crate::delivering::deliver;
 use crate::proving::{Decided, without_table, work};
 use crate::words::limits_of;
+use case_journal::Limits;
 use dfg_reader::{InputError, Problem, clauses_of, read_problem};
 use outside_io::{ReadError, Sink, Source, read_all};
 use spl_symbols::Signature;
-use split_tree::{Limits, Table};
+use split_tree::Table;
 use std::alloc::Global;
 
 /// The most bytes that are read.

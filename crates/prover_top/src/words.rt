@@ -3,7 +3,7 @@ ghost use Rattle.std.specs.Str.Parse.{IsNumeral, digits_value};
 ghost use Rattle.std.specs.String.{string_bytes};
 ghost use Rattle.prover_top.specs.Words.{number_of, with_rounds, with_steps, with_splits, with_workers, with_number, with_option, options_of, limits_given, limits_of};
 
-use split_tree::Limits;
+use case_journal::Limits;
 
 /// The options that were given so far.
 #[derive(Clone, Copy, Debug)]

@@ -8,21 +8,23 @@ use Rattle.std.specs.List.{slice_get}
 use Rattle.spl_terms.specs.Clauses.{is_empty}
 use Rattle.proof_steps.specs.declared.step.Line.{Line}
 use Rattle.proof_steps.specs.Spots.{changed_at}
-use Rattle.split_tree.specs.declared.branch.Branch.{Branch}
-use Rattle.split_tree.specs.declared.event.Entry.{Entry}
-use Rattle.split_tree.specs.declared.event.Event.{Event}
-use Rattle.split_tree.specs.Journal.{Setting, nodes, nodes_of, lines_of, ledger, steps}
-use Rattle.split_tree.specs.Paths.{on_path, branch}
-use Rattle.split_tree.specs.Facts.{is_number, IsEmptyAt, IsLive}
-use Rattle.split_tree.specs.Legal.{IsAsked, IsLegalJournal, IsFirstEmpty}
+use Rattle.case_journal.specs.declared.branch.Branch.{Branch}
+use Rattle.case_journal.specs.declared.event.Entry.{Entry}
+use Rattle.case_journal.specs.declared.event.Event.{Event}
+use Rattle.case_journal.specs.Journal.{Setting, nodes, nodes_of, lines_of, ledger, steps}
+use Rattle.case_journal.specs.Paths.{on_path, branch}
+use Rattle.case_journal.specs.Facts.{is_number, IsEmptyAt, IsLive}
+use Rattle.case_journal.specs.Legal.{IsAsked, IsLegalJournal, IsFirstEmpty}
 use Rattle.split_tree.specs.Caches.{homes, homes_by, at_home, own_empty, empties, or_first, noted_empty, noted_empties, IsHome, AreHomes, smaller}
-use Rattle.split_tree.proofs.Lists.{upto-same, upto-changed, upto-more, numbered_get, length-input_lines}
+use Rattle.split_tree.proofs.Lists.{upto-same, upto-changed, upto-more}
+use Rattle.case_journal.specs.ListLaws.{numbered_get, length-input_lines}
 use Rattle.split_tree.proofs.Places.{HasLines-legal}
-use Rattle.split_tree.proofs.Climb.{on_path-self, on_path_root, nodes_some}
-use Rattle.split_tree.proofs.Branches.{climbs}
+use Rattle.case_journal.specs.PathLaws.{on_path-self, on_path_root, nodes_some}
+use Rattle.case_journal.specs.BranchLaws.{climbs}
 use Rattle.split_tree.proofs.Past.{length-homes, length-homes_by, homes-push}
-use Rattle.split_tree.proofs.Homes.{listed_within, housed, new_housed}
-use Rattle.split_tree.proofs.Standing.{parent_below}
+use Rattle.case_journal.specs.ListedLaws.{listed_within}
+use Rattle.split_tree.proofs.Homes.{housed, new_housed}
+use Rattle.case_journal.specs.StandingLaws.{parent_below}
 
 -- ---- one more line
 

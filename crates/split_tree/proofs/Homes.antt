@@ -1,34 +1,26 @@
 -- Where clauses are listed and steps stand is what the journal says.
-use Rattle.std.proofs.Common.{◌≡◌, ℕ, zero, suc, ◌+◌, ◌-◌, ◌<◌, ◌≤◌, inl, inr, Bool, true, false, ◌&&◌, ◌||◌, eqb, ltb, leb, List, [], ◌∷◌, ◌++◌, length, reverse, replicate, Option, Some, None, refl, sym, ◌∙◌, ap, arith, length-append}
-use Rattle.std.proofs.lemmas.Bool.{or_cases, cases_lt, false_from_ne_true}
+use Rattle.std.proofs.Common.{◌≡◌, ℕ, zero, suc, ◌+◌, ◌-◌, ◌<◌, ◌≤◌, inl, inr, Bool, false, ◌&&◌, ◌||◌, eqb, ltb, leb, List, [], ◌∷◌, ◌++◌, length, reverse, replicate, Option, Some, None, refl, sym, ◌∙◌, ap, arith, length-append}
+use Rattle.std.proofs.lemmas.Bool.{cases_lt, false_from_ne_true}
 use Rattle.std.proofs.lemmas.Bool.Decides.{nat_tests}
 use Rattle.std.proofs.lemmas.List.{length-replicate, reverse-append, length-reverse}
 use Rattle.std.proofs.lemmas.Option.{slice_get_within}
 use Rattle.std.specs.List.{slice_get}
 use Rattle.proof_steps.specs.declared.step.Line.{Line}
-use Rattle.split_tree.specs.declared.event.Entry.{Entry}
-use Rattle.split_tree.specs.declared.event.Event.{Event}
-use Rattle.split_tree.specs.declared.event.Event.TheVariants.{Publish, Split}
+use Rattle.case_journal.specs.declared.event.Entry.{Entry}
+use Rattle.case_journal.specs.declared.event.Event.{Event}
+use Rattle.case_journal.specs.declared.event.Event.TheVariants.{Publish, Split}
+use Rattle.case_journal.specs.ListedLaws.{listed_within}
 use Rattle.split_tree.specs.declared.caches.Spot.{Spot}
-use Rattle.split_tree.specs.Journal.{Setting, input_lines, lines_of, nodes_of, nodes, ledger, steps}
-use Rattle.split_tree.specs.Paths.{stem, on_path}
-use Rattle.split_tree.specs.Facts.{lists, listed}
-use Rattle.split_tree.specs.Legal.{IsAsked, IsLegalJournal}
+use Rattle.case_journal.specs.Journal.{Setting, input_lines, lines_of, nodes_of, nodes, ledger, steps}
+use Rattle.case_journal.specs.Paths.{stem, on_path}
+use Rattle.case_journal.specs.Facts.{lists, listed}
+use Rattle.case_journal.specs.Legal.{IsAsked, IsLegalJournal}
 use Rattle.split_tree.specs.Caches.{homes, homes_by, at_home, IsHome, spots, spots_upto}
-use Rattle.split_tree.proofs.Lists.{get_more, get_left, get_right, length-spots_upto, length-input_lines, get_copies}
-use Rattle.split_tree.proofs.Places.{steps_more, lists_new, stem_there, publish_there, one_line, in_input}
-use Rattle.split_tree.proofs.Climb.{or_absorb, on_path_within, on_path_grow, or_no}
+use Rattle.case_journal.specs.ListLaws.{get_more, get_left, get_right, length-input_lines}
+use Rattle.split_tree.proofs.Lists.{length-spots_upto, get_copies}
+use Rattle.case_journal.specs.PlaceLaws.{steps_more, lists_new, stem_there, publish_there, one_line}
+use Rattle.case_journal.specs.PathLaws.{or_absorb, on_path_within, on_path_grow, or_no}
 use Rattle.split_tree.proofs.Past.{length-homes}
-
--- a listed number is one of the ledger
-pub listed_within : (s : Setting) (past : List Entry) → IsLegalJournal s past → (m i : ℕ) → listed s past m i ≡ true → (1 ≤ i) × (i ≤ steps s past)
-listed_within s [] legal m i h = let r = in_input (eqb m 0) i (length s.input) h in (r.0, omega (arith, r.1, length-input_lines 1 s.input))
-listed_within s (e ∷ past) legal m i h =
-    let more = steps_more s past e in
-    elim (or_cases (lists e.event (nodes past) (steps s past) (on_path past m) m i) (listed s past (stem e.event (nodes past) m) i) h) [
-      | inl l ↦ let q = lists_new s past e.by e.event (nodes past) (on_path past m) m i legal.0.asked l in (omega arith, omega arith)
-      | inr r ↦ let q = listed_within s past legal.1 (stem e.event (nodes past) m) i r in (omega arith, omega arith)
-    ]
 
 -- ---- homes
 

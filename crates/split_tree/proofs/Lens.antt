@@ -6,20 +6,21 @@ use Rattle.std.proofs.lemmas.Option.{slice_get_read, slice_get_within, get_or_fr
 use Rattle.spl_terms.specs.Clauses.{clause_symbols}
 use Rattle.proof_steps.specs.declared.step.Line.{Line}
 use Rattle.proof_steps.specs.Steps.{numbered}
-use Rattle.split_tree.specs.declared.event.Entry.{Entry}
-use Rattle.split_tree.specs.declared.branch.Branch.{Branch}
+use Rattle.case_journal.specs.declared.event.Entry.{Entry}
+use Rattle.case_journal.specs.declared.branch.Branch.{Branch}
 use Rattle.split_tree.specs.declared.caches.Spot.{Spot}
-use Rattle.split_tree.specs.Paths.{on_path, branch}
-use Rattle.split_tree.specs.Facts.{listed}
+use Rattle.case_journal.specs.Paths.{on_path, branch}
+use Rattle.case_journal.specs.Facts.{listed}
 use Rattle.split_tree.proofs.Branches.{branch_at}
 use Rattle.split_tree.proofs.Homes.{housed, Spotted, spotted}
-use Rattle.split_tree.specs.Journal.{ledger, nodes, steps}
+use Rattle.case_journal.specs.Journal.{ledger, nodes, steps}
 use Rattle.split_tree.specs.declared.table.Table.TheInside.{Inside}
 use Rattle.split_tree.specs.declared.caches.Seat.{Seat}
 use Rattle.split_tree.specs.declared.caches.NodeState.{NodeState}
 use Rattle.split_tree.specs.Fields.{setting_of, IsTable}
 use Rattle.split_tree.specs.Caches.{past_of, at_home, IsHome, homes, own_empty, retired, newest}
-use Rattle.split_tree.proofs.Lists.{length-input_lines, length-upto, upto_at, length-weights, weights_at, numbered_get}
+use Rattle.case_journal.specs.ListLaws.{length-input_lines, numbered_get}
+use Rattle.split_tree.proofs.Lists.{length-upto, upto_at, length-weights, weights_at}
 use Rattle.split_tree.proofs.Past.{length-branches, length-homes, reverse-past_of}
 use Rattle.split_tree.proofs.States.{length-states, length-seats, seat_at, seat_of, state_at, state_of}
 

@@ -3,15 +3,16 @@ use Rattle.std.specs.Prelude.{◌==◌, if◌then◌else◌}
 use Rattle.std.proofs.lemmas.Bool.{ne_eqb, cases_lt}
 use Rattle.std.proofs.Common.{eq-eqb, sym, inl, inr, Bool, true, false, not, ◌&&◌, ◌||◌, ◌≡◌, ℕ, zero, suc, ◌+◌, ◌-◌, ◌*◌, ◌<◌, ◌≤◌, List, [], ◌∷◌, ◌++◌, length, reverse, replicate, Option, Some, None, refl, ◌∙◌, ap, arith, length-append}
 use Rattle.std.proofs.lemmas.List.{reverse-append, reverse-reverse, length-reverse, length-replicate}
-use Rattle.split_tree.specs.declared.event.Entry.{Entry}
-use Rattle.split_tree.specs.declared.event.Event.{Event}
-use Rattle.split_tree.specs.declared.event.Event.TheVariants.{Publish, Split}
-use Rattle.split_tree.specs.Journal.{Setting, lines_of, nodes_of, nodes, splits_of, steps, ledger}
-use Rattle.split_tree.specs.Facts.{has_stopped, is_stop, waiting, cost_of}
-use Rattle.split_tree.specs.Legal.{IsLegalJournal}
+use Rattle.case_journal.specs.declared.event.Entry.{Entry}
+use Rattle.case_journal.specs.declared.event.Event.{Event}
+use Rattle.case_journal.specs.declared.event.Event.TheVariants.{Publish, Split}
+use Rattle.case_journal.specs.Journal.{Setting, lines_of, nodes_of, nodes, steps, ledger}
+use Rattle.case_journal.specs.Facts.{has_stopped, is_stop, waiting, cost_of}
+use Rattle.case_journal.specs.Legal.{IsLegalJournal}
 use Rattle.split_tree.specs.Caches.{past_of, branches, branches_by, homes, homes_by, HasLines, spots, spots_upto, states, states_by, seats, seat_by}
 use Rattle.proof_steps.specs.Spots.{changed_at}
-use Rattle.split_tree.proofs.Places.{steps_more, HasLines-legal}
+use Rattle.case_journal.specs.PlaceLaws.{steps_more}
+use Rattle.split_tree.proofs.Places.{HasLines-legal}
 
 pub past_of-push : (xs : List Entry) (e : Entry) → past_of (xs ++ e ∷ []) ≡ e ∷ past_of xs
 unfolding past_of
@@ -71,10 +72,6 @@ pub length-homes : (s : Setting) (past : List Entry) → IsLegalJournal s past �
 unfolding homes
 length-homes s [] legal long = length-replicate (length s.input) (Some 0) ∙ long
 length-homes s (e ∷ past) legal long = omega (arith, length-append (homes s past) (homes_by e.event (nodes past)), length-homes s past legal.1 long, length-homes_by e.event (nodes past) (HasLines-legal s past e.by e.event legal.0.asked), steps_more s past e)
-
-pub splits_nodes : (ev : Event) → nodes_of ev ≡ 2 * splits_of ev
-splits_nodes (Split node lines put_off) = refl
-splits_nodes _ = refl
 
 pub nodes_cost : (past : List Entry) (w : ℕ) (ev : Event) → nodes_of ev ≤ 2 * cost_of past w ev
 nodes_cost past w (Split node lines put_off) = omega arith

@@ -6,19 +6,20 @@ use Rattle.std.proofs.lemmas.List.{reverse-append, length-reverse}
 use Rattle.std.specs.List.{slice_get, list_any}
 use Rattle.spl_truth.specs.declared.picking.Candidate.{Candidate}
 use Rattle.proof_steps.specs.declared.step.Line.{Line}
-use Rattle.split_tree.specs.declared.event.Entry.{Entry}
-use Rattle.split_tree.specs.declared.event.Event.{Event}
-use Rattle.split_tree.specs.declared.event.Event.TheVariants.{Split, Activate}
+use Rattle.case_journal.specs.declared.event.Entry.{Entry}
+use Rattle.case_journal.specs.declared.event.Event.{Event}
+use Rattle.case_journal.specs.declared.event.Event.TheVariants.{Split, Activate}
 use Rattle.split_tree.specs.declared.caches.Retired.{Retired}
-use Rattle.split_tree.specs.Journal.{Setting, nodes, nodes_of}
-use Rattle.split_tree.specs.Paths.{stem, on_path, subject}
-use Rattle.split_tree.specs.Facts.{worked, split, activates, splits_clause, is_number, chosen}
-use Rattle.split_tree.specs.Picking.{passing, weighed}
-use Rattle.split_tree.specs.Legal.{IsAsked, IsLegalJournal}
+use Rattle.case_journal.specs.Journal.{Setting, nodes, nodes_of}
+use Rattle.case_journal.specs.Paths.{stem, on_path, subject}
+use Rattle.case_journal.specs.Facts.{worked, split, activates, splits_clause, is_number, chosen}
+use Rattle.case_journal.specs.Picking.{passing, weighed}
+use Rattle.case_journal.specs.Legal.{IsAsked, IsLegalJournal}
 use Rattle.split_tree.specs.Caches.{retired, retired_at, retired_by, with_newest, newest}
-use Rattle.split_tree.proofs.Places.{node_there, stem_there}
-use Rattle.split_tree.proofs.Climb.{on_path_grow}
-use Rattle.split_tree.proofs.Lists.{get_more, get_right}
+use Rattle.split_tree.proofs.Places.{node_there}
+use Rattle.case_journal.specs.PlaceLaws.{stem_there}
+use Rattle.case_journal.specs.PathLaws.{on_path_grow}
+use Rattle.case_journal.specs.ListLaws.{get_more, get_right}
 
 -- the clause is i, and the node is on the path
 abbrev pub hits : (ℕ → Bool) → ℕ → Retired → Bool

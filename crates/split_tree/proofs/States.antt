@@ -1,26 +1,28 @@
 -- What is kept of each node and of each worker is what the journal says.
 use Rattle.std.proofs.Common.{◌≡◌, ℕ, zero, suc, ◌+◌, ◌-◌, ◌<◌, ◌≤◌, ◌^◌, inl, inr, Bool, true, false, cond, not, ◌&&◌, ◌||◌, eqb, List, [], ◌∷◌, ◌++◌, length, Option, Some, None, refl, sym, ◌∙◌, ap, arith, eq-eqb, length-append}
-use Rattle.std.proofs.lemmas.Bool.{eqb-true, ne_eqb, cases_Bool, cases_lt, cond-true, cond-false, and_from, false_from_ne_true}
+use Rattle.std.proofs.lemmas.Bool.{eqb-true, cases_Bool, cases_lt, cond-true, cond-false, and_from, false_from_ne_true}
 use Rattle.std.proofs.lemmas.List.{length-replicate}
 use Rattle.std.proofs.lemmas.Option.{slice_get_within}
 use Rattle.std.specs.List.{slice_get}
 use Rattle.std.specs.Option.{option_map}
 use Rattle.proof_steps.specs.Spots.{changed_at}
-use Rattle.split_tree.specs.declared.event.Entry.{Entry}
-use Rattle.split_tree.specs.declared.event.Event.{Event}
-use Rattle.split_tree.specs.declared.event.Event.TheVariants.{Claim, Choose, Publish, Split, Activate, Saturated, Spent, Big, Full, Stop}
+use Rattle.case_journal.specs.declared.event.Entry.{Entry}
+use Rattle.case_journal.specs.declared.event.Event.{Event}
+use Rattle.case_journal.specs.declared.event.Event.TheVariants.{Claim, Choose, Publish, Split, Activate, Saturated, Spent, Big, Full, Stop}
+use Rattle.case_journal.specs.FreshLaws.{fresh_chosen, fresh_leaf, fresh_split}
 use Rattle.split_tree.specs.declared.caches.NodeState.{NodeState}
 use Rattle.split_tree.specs.declared.caches.Seat.{Seat}
-use Rattle.split_tree.specs.Journal.{Setting, nodes, nodes_of}
-use Rattle.split_tree.specs.Paths.{stem, on_path, is_leaf, splits_node}
-use Rattle.split_tree.specs.Facts.{chosen, chosen_by, claimed, claimed_by, has_stopped, is_stop}
-use Rattle.split_tree.specs.Picking.{choices}
-use Rattle.split_tree.specs.Legal.{IsAsked, IsLegalJournal}
+use Rattle.case_journal.specs.Journal.{Setting, nodes, nodes_of}
+use Rattle.case_journal.specs.Paths.{stem, on_path, is_leaf, splits_node}
+use Rattle.case_journal.specs.Facts.{chosen, claimed, claimed_by, has_stopped, is_stop}
+use Rattle.case_journal.specs.Picking.{choices}
+use Rattle.case_journal.specs.Legal.{IsAsked, IsLegalJournal}
 use Rattle.split_tree.specs.Caches.{states, states_by, state_by, new_state, child_of, HasFewChoices, seats, seat_by}
-use Rattle.split_tree.proofs.Lists.{get_left, get_right, length-changed_at, changed_at-here, changed_at-elsewhere, get_copies}
-use Rattle.split_tree.proofs.Places.{claimed_within, node_there}
-use Rattle.split_tree.proofs.Climb.{on_path-self, stem_old, leaf_path, stem_high}
-use Rattle.split_tree.proofs.Bounds.{choices_bound, rounds_bound}
+use Rattle.case_journal.specs.ListLaws.{get_left, get_right}
+use Rattle.split_tree.proofs.Lists.{length-changed_at, changed_at-here, changed_at-elsewhere, get_copies}
+use Rattle.split_tree.proofs.Places.{node_there}
+use Rattle.case_journal.specs.PathLaws.{on_path-self, stem_old, leaf_path, stem_high}
+use Rattle.case_journal.specs.BoundLaws.{choices_bound, rounds_bound}
 
 -- ---- nodes
 
@@ -45,25 +47,6 @@ state_of past m = record { leaf = is_leaf past m; chosen = chosen past m; choice
 same_state : (a b : Bool) (c d : Option ℕ) (e f : ℕ) → a ≡ b → c ≡ d → e ≡ f
     → (let x : NodeState = record { leaf = a; chosen = c; choices = e } in x) ≡ (let y : NodeState = record { leaf = b; chosen = d; choices = f } in y)
 same_state a b c d e f p q r = λ i. record { leaf = p i; chosen = q i; choices = r i }
-
-fresh_chosen_by : (s : Setting) (past : List Entry) → IsLegalJournal s past → (w : ℕ) (ev : Event) (m : ℕ) (o : Option ℕ) → IsAsked s past w ev → nodes past ≤ m → o ≡ None → chosen_by ev m o ≡ None
-fresh_chosen_by s past legal w (Choose node clause selected) m o p h e = cond-false (eqb node m) (Some clause) o (ne_eqb node m (λ q. let low = claimed_within s past legal w node p.holds.claims in omega arith)) ∙ e
-fresh_chosen_by s past legal w (Activate node) m o p h e = cond-false (eqb node m) None o (ne_eqb node m (λ q. let low = claimed_within s past legal w node p.holds.claims in omega arith)) ∙ e
-fresh_chosen_by s past legal w _ m o p h e = e
-
--- nothing is chosen at a node that isn't there yet
-pub fresh_chosen : (s : Setting) (past : List Entry) → IsLegalJournal s past → (m : ℕ) → nodes past ≤ m → chosen past m ≡ None
-fresh_chosen s [] legal m h = refl
-fresh_chosen s (e ∷ past) legal m h = fresh_chosen_by s past legal.1 e.by e.event m (chosen past m) legal.0.asked (omega arith) (fresh_chosen s past legal.1 m (omega arith))
-
-fresh_split : (s : Setting) (past : List Entry) → IsLegalJournal s past → (w : ℕ) (ev : Event) (m : ℕ) → IsAsked s past w ev → nodes past ≤ m → splits_node ev m ≡ false
-fresh_split s past legal w (Split node lines put_off) m p h = ne_eqb node m (λ q. let low = node_there s past legal w (Split node lines put_off) p in omega arith)
-fresh_split s past legal w _ m p h = refl
-
--- a node that isn't there yet is not split
-pub fresh_leaf : (s : Setting) (past : List Entry) → IsLegalJournal s past → (m : ℕ) → nodes past ≤ m → is_leaf past m ≡ true
-fresh_leaf s [] legal m h = refl
-fresh_leaf s (e ∷ past) legal m h = and_from (not (splits_node e.event m)) (is_leaf past m) (ap not (fresh_split s past legal.1 e.by e.event m legal.0.asked (omega arith))) (fresh_leaf s past legal.1 m (omega arith))
 
 -- a node at which the event has no state to change
 changed_none : (xs : List NodeState) (node m : ℕ) (f : NodeState → NodeState) (x : NodeState) → (m ≡ node → ⊥) → slice_get xs m ≡ Some x → slice_get (changed_at node f xs) m ≡ Some x

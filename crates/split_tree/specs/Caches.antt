@@ -3,19 +3,19 @@ use Rattle.std.specs.Prelude.{◌≡◌, ℕ, zero, suc, ◌+◌, ◌-◌, ◌<�
 use Rattle.spl_terms.specs.Clauses.{is_empty, clause_symbols}
 use Rattle.proof_steps.specs.declared.step.Line.{Line}
 use Rattle.proof_steps.specs.Spots.{changed_at}
-use Rattle.split_tree.specs.declared.event.Entry.{Entry}
-use Rattle.split_tree.specs.declared.event.Event.{Event}
-use Rattle.split_tree.specs.declared.event.Event.TheVariants.{Choose, Publish, Split, Activate}
-use Rattle.split_tree.specs.declared.branch.Branch.{Branch}
+use Rattle.case_journal.specs.declared.event.Entry.{Entry}
+use Rattle.case_journal.specs.declared.event.Event.{Event}
+use Rattle.case_journal.specs.declared.event.Event.TheVariants.{Choose, Publish, Split, Activate}
+use Rattle.case_journal.specs.declared.branch.Branch.{Branch}
 use Rattle.split_tree.specs.declared.caches.Spot.{Spot}
 use Rattle.split_tree.specs.declared.caches.NodeState.{NodeState}
 use Rattle.split_tree.specs.declared.caches.Retired.{Retired}
 use Rattle.split_tree.specs.declared.caches.Seat.{Seat}
 use Rattle.split_tree.specs.declared.caches.Tally.{Tally}
-use Rattle.split_tree.specs.Journal.{Setting, nodes, lines_of, count_of, choices_of, splits_of, counted, rounds, splits}
-use Rattle.split_tree.specs.Paths.{branch_to, subject}
-use Rattle.split_tree.specs.Facts.{chosen, claimed_by, is_stop, is_number}
-use Rattle.split_tree.specs.Ending.{end_by, first_end, or_else}
+use Rattle.case_journal.specs.Journal.{Setting, nodes, lines_of, count_of, choices_of, splits_of, counted, rounds, splits}
+use Rattle.case_journal.specs.Paths.{branch_to, subject}
+use Rattle.case_journal.specs.Facts.{chosen, claimed_by, is_stop, is_number}
+use Rattle.case_journal.specs.Ending.{end_by, first_end, or_else}
 
 -- the entries of a journal, the newest first
 unfoldable pub past_of : List Entry → List Entry
@@ -176,10 +176,6 @@ tally past = record { counted = counted past; rounds = rounds past; splits = spl
 
 abbrev pub weights : List Line → List ℕ
 weights = map (λ l. clause_symbols l.stated.clause)
-
--- each of these lines states a clause of at most 4,096 symbols
-abbrev pub AreSmall : List Line → Type 0
-AreSmall lines = (k : ℕ) (l : Line) → slice_get lines k ≡ Some l → clause_symbols l.stated.clause ≤ 4096
 
 -- ---- clauses that were activated or split
 

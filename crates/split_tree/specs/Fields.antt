@@ -1,12 +1,12 @@
 -- What is true of the fields of a table.
 use Rattle.std.specs.Prelude.{◌≡◌, ◌+◌, ◌*◌, ◌<◌, ◌≤◌, ◌^◌, reverse, vec_len, vec_capacity}
-use Rattle.split_tree.specs.Journal.{Setting, IsSmall, ledger, input_lines, nodes, steps}
-use Rattle.split_tree.specs.Paths.{leaves}
-use Rattle.split_tree.specs.Facts.{waiting}
-use Rattle.split_tree.specs.Ending.{has_empty}
-use Rattle.split_tree.specs.Legal.{IsLegalJournal}
+use Rattle.case_journal.specs.Journal.{Setting, IsSmall, ledger, input_lines, nodes, steps, AreSmall}
+use Rattle.case_journal.specs.Paths.{leaves}
+use Rattle.case_journal.specs.Facts.{waiting}
+use Rattle.case_journal.specs.Ending.{has_empty}
+use Rattle.case_journal.specs.Legal.{IsLegalJournal}
 use Rattle.split_tree.specs.declared.table.Table.TheInside.{Inside}
-use Rattle.split_tree.specs.Caches.{past_of, branches, homes, spots, empties, weights, AreSmall, retired, newest_upto, states, seats, tally}
+use Rattle.split_tree.specs.Caches.{past_of, branches, homes, spots, empties, weights, retired, newest_upto, states, seats, tally}
 
 abbrev pub setting_of : Inside → Setting
 setting_of t = record { input = t.input; limits = t.limits; workers = t.workers }

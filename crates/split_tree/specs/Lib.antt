@@ -1,10 +1,3 @@
-pub mod Journal
-pub mod Paths
-pub mod Facts
-pub mod Picking
-pub mod Ending
-pub mod Legal
-pub mod Closing
 pub mod Caches
 pub mod State
 pub mod Fields

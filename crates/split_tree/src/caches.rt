@@ -1,14 +1,13 @@
 // What a table keeps beside its journal, entry by entry.
 ghost use Rattle.std.specs.Prelude.{◌≡◌, ◌+◌, ◌-◌, ◌<◌, ◌≤◌, ◌^◌, [], ◌∷◌, ◌++◌, length, vec_len, vec_capacity, insert, replicate};
 ghost use Rattle.spl_terms.specs.Clauses.{is_empty};
-ghost use Rattle.split_tree.specs.Journal.{lines_of, count_of, nodes_of, choices_of, splits_of};
+ghost use Rattle.case_journal.specs.Journal.{lines_of, count_of, nodes_of, choices_of, splits_of, AreSmall};
 ghost use Rattle.proof_steps.specs.Spots.{changed_at};
-ghost use Rattle.split_tree.specs.Paths.{branch_to, replaced, leaves_by};
-ghost use Rattle.split_tree.specs.Ending.{or_else};
-ghost use Rattle.split_tree.specs.Caches.{branches_by, homes_by, spots_upto, or_first, noted_empty, noted_empties, IsHome, AreHomes, HasLines, HasFewChoices, IsNodeOf, state_by, with_children, states_by, seat_by, tally_by, weights, AreSmall, pushed, noted, IsNumbered};
+ghost use Rattle.case_journal.specs.Paths.{branch_to, replaced, leaves_by};
+ghost use Rattle.case_journal.specs.Ending.{or_else};
+ghost use Rattle.split_tree.specs.Caches.{branches_by, homes_by, spots_upto, or_first, noted_empty, noted_empties, IsHome, AreHomes, HasLines, HasFewChoices, IsNodeOf, state_by, with_children, states_by, seat_by, tally_by, weights, pushed, noted, IsNumbered};
 
-use crate::branch::Branch;
-use crate::event::{End, Event, count_of, subject};
+use case_journal::{Branch, End, Event, count_of, subject};
 use dep_sets::Assumption;
 use proof_steps::Line;
 use spl_terms::{Clause, symbols_of};

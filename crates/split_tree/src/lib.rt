@@ -1,14 +1,10 @@
-//! The tree of cases: a legal journal of events, and what it says of each node.
+//! The table: a legal journal over a tree of cases, with what is computed from it.
 //!
-//! `specs/Journal.antt` has the ledger of steps, `specs/Paths.antt` the tree, `specs/Facts.antt` what is listed, live
-//! and chosen at a node, `specs/Picking.antt` and `specs/Ending.antt` what is chosen next and why proving ended, and
-//! `specs/Legal.antt` which event may come after a journal. `Table` keeps a legal journal, with what is computed from it.
+//! What a journal says, and which event may come next, is defined in `case_journal`. `specs/Fields.antt` says what is
+//! true of a table's fields, and `specs/Caches.antt` what it keeps beside its journal.
 #![tactic(auto)]
 
-mod branch;
 mod caches;
-mod event;
 mod table;
 
-pub use event::{End, Entry, Event, Limits};
 pub use table::Table;

@@ -1,25 +1,27 @@
 //! The table: a legal journal, and what is computed from it.
 mod reading;
 
-ghost use Rattle.std.specs.Prelude.{◌≡◌, ℕ, ◌-◌, ◌<◌, ◌≤◌, ◌^◌, ◌&&◌, not, if◌then◌else◌, IfOk, OnOk, OnErr, IsSome, [], ◌∷◌, length, replicate, true, None, Some};
+ghost use Rattle.std.specs.Prelude.{◌≡◌, ℕ, ◌+◌, ◌-◌, ◌<◌, ◌≤◌, ◌^◌, ◌&&◌, not, if◌then◌else◌, IfOk, OnOk, OnErr, IsSome, IsSomeAnd, [], ◌∷◌, length, replicate, true, None, Some};
+ghost use Rattle.std.specs.List.{list_all};
 ghost use Rattle.spl_terms.specs.Clauses.{clause_symbols};
 ghost use Rattle.proof_steps.specs.declared.step.Line.{Line};
 ghost use Rattle.proof_steps.specs.Checked.{AreConclusions};
 ghost use Rattle.proof_steps.specs.Steps.{numbered, is_covered_rule};
-ghost use Rattle.split_tree.specs.Journal.{input_line, input_lines, lines_of, ledger, nodes, steps};
-ghost use Rattle.split_tree.specs.Facts.{cost_of, chosen, IsDead, Holds};
-ghost use Rattle.split_tree.specs.Ending.{has_empty, first_end, reason};
-ghost use Rattle.split_tree.specs.Caches.{empties, AreHomes, weights, AreSmall, retired, retired_at, retired_by, IsNumbered, IsNodeOf, new_state, seats};
-ghost use Rattle.split_tree.specs.Legal.{IsLegal, IsLegalJournal, IsSettled, IsClaimable};
-ghost use Rattle.split_tree.specs.Closing.{IsClosed};
+ghost use Rattle.case_journal.specs.Journal.{IsSmall, input_line, input_lines, lines_of, ledger, nodes, steps, AreSmall};
+ghost use Rattle.case_journal.specs.Paths.{branch};
+ghost use Rattle.case_journal.specs.Facts.{cost_of, chosen, IsDead, Holds};
+ghost use Rattle.case_journal.specs.Ending.{has_empty, first_end, reason};
+ghost use Rattle.split_tree.specs.Caches.{empties, AreHomes, weights, retired, retired_at, retired_by, IsNumbered, IsNodeOf, new_state, seats};
+ghost use Rattle.case_journal.specs.Legal.{IsLegal, IsLegalJournal, IsSettled, IsClaimable};
+ghost use Rattle.case_journal.specs.Closing.{IsClosed};
+ghost use Rattle.case_journal.specs.Symbols.{SymbolTest, clause_passes, line_passes};
 
-use crate::branch::Branch;
 use crate::caches::{
     NodeState, Retired, Seat, Spot, Tally, add_branches, add_copies, add_homes, add_retired,
     add_spots, add_weights, is_empty, nodes_of, note_empties, note_leaves, note_newest, note_node,
     note_seat,
 };
-use crate::event::{Entry, Event, Limits, subject};
+use case_journal::{Branch, Entry, Event, Limits, subject};
 use dep_sets::Deps;
 use proof_steps::{Line, Rule, Statement, Step};
 use spl_terms::{Clause, Items};
@@ -386,6 +388,26 @@ impl Table {
         let _ = &self.journal;
     }
 
+    /// What is known of each table by its type: its journal is legal, so that no more was chosen, published and split
+    /// than the limits allow; each line of its ledger states what its step concludes from the input and the lines
+    /// before it, in at most 4,096 symbols, by one of the rules that `proof_steps` covers; there are so few nodes and
+    /// steps that their numbers fit; there are 1 to 8 workers; a tree of one node is settled; and where proving has not
+    /// ended, no event ends the journal. It does nothing when it runs.
+    pub fn laws(&self)
+        ensures legal { IsLegalJournal self.now.setting self.now.past }
+        ensures concluded { AreConclusions self.now.setting.input (ledger self.now.setting self.now.past) }
+        ensures covered { (n : ℕ) (l : Line) → numbered (ledger self.now.setting self.now.past) n ≡ Some l → is_covered_rule l.step.rule ≡ true }
+        ensures few_nodes { nodes self.now.past < 2 ^ 32 }
+        ensures few_steps { steps self.now.setting self.now.past + 1 < 2 ^ 32 }
+        ensures small { IsSmall self.now.setting.limits }
+        ensures some_workers { 1 ≤ self.now.setting.workers }
+        ensures few_workers { self.now.setting.workers ≤ 8 }
+        ensures settled { nodes self.now.past ≡ 1 → IsSettled self.now.setting self.now.past }
+        ensures unended { reason self.now.setting self.now.past ≡ None → first_end self.now.past ≡ None }
+    {
+        let _ = &self.journal;
+    }
+
     /// The law of the ledger: each line states what its step concludes from the input and the lines before it, in at
     /// most 4,096 symbols. It does nothing when it runs.
     pub fn ledger_is_concluded(&self)
@@ -402,11 +424,30 @@ impl Table {
         let _ = &self.journal;
     }
 
+    /// The law of symbols: each symbol of a line of the ledger, its substitutions included, occurs in the input in the
+    /// same role, in terms or in atoms, with as many arguments. So each test of these that all of the input passes is
+    /// passed by each line. It does nothing when it runs.
+    pub fn symbols_are_of_the_input(&self)
+        ensures { (test : SymbolTest) → list_all (clause_passes test) self.now.setting.input ≡ true
+            → (n : ℕ) (l : Line) → numbered (ledger self.now.setting self.now.past) n ≡ Some l → line_passes test l ≡ true }
+    {
+        self.journal_is_legal();
+    }
+
     /// The law on dead nodes: an empty clause stands at a node of the path of each, and depends on assumptions of that
     /// node's path alone. Where no empty clause was published at a dead node itself, so that it is discarded, that
-    /// empty clause doesn't depend on the assumption of the node. It does nothing when it runs.
+    /// empty clause depends on neither side of the split that made the node. It does nothing when it runs.
     pub fn dead_nodes_are_closed(&self)
         ensures { (m : ℕ) → m < nodes self.now.past → IsDead self.now.setting self.now.past m → IsClosed self.now.setting self.now.past m }
+    {
+        self.journal_is_legal();
+    }
+
+    /// The law of the tree: the root hangs at no node, and each other node at one before it. So `parent` and
+    /// `assumption` answer none exactly at the root. It does nothing when it runs.
+    pub fn the_root_alone_hangs_nowhere(&self)
+        ensures root { branch self.now.past 0 ≡ None }
+        ensures others { (m : ℕ) → 0 < m → m < nodes self.now.past → IsSomeAnd (branch self.now.past m) (λ b. b.parent < m) }
     {
         self.journal_is_legal();
     }

@@ -5,13 +5,13 @@ use Rattle.std.specs.List.{slice_get}
 use Rattle.std.proofs.lemmas.Bool.{cases_Bool}
 use Rattle.spl_terms.specs.Clauses.{is_empty}
 use Rattle.proof_steps.specs.declared.step.Line.{Line}
-use Rattle.split_tree.specs.declared.event.Entry.{Entry}
-use Rattle.split_tree.specs.declared.event.End.{End}
-use Rattle.split_tree.specs.Journal.{Setting, rounds}
-use Rattle.split_tree.specs.Paths.{is_leaf, on_path, owner}
-use Rattle.split_tree.specs.Facts.{chosen, claimed, IsDead}
-use Rattle.split_tree.specs.Ending.{first_end}
-use Rattle.split_tree.specs.Legal.{IsSettled}
+use Rattle.case_journal.specs.declared.event.Entry.{Entry}
+use Rattle.case_journal.specs.declared.event.End.{End}
+use Rattle.case_journal.specs.Journal.{Setting, rounds}
+use Rattle.case_journal.specs.Paths.{is_leaf, on_path, owner}
+use Rattle.case_journal.specs.Facts.{chosen, claimed, IsDead}
+use Rattle.case_journal.specs.Ending.{first_end}
+use Rattle.case_journal.specs.Legal.{IsSettled}
 use Rattle.backjump.specs.Cases.{OnlyCloses, IsCaseEntry}
 use Rattle.backjump.proofs.Deaths.{new_empty, owner_on}
 use Rattle.worker_cases.specs.Working.{IsSound, IsBetween, IsBusy, KeepsWork}

@@ -19,8 +19,8 @@ use Rattle.proof_steps.specs.Steps.{numbered, resolution, resolved, of_two, from
 use Rattle.proof_steps.specs.Checked.{resolution_of_lines, stated}
 use Rattle.worker_cases.specs.Covering.{Listing, IsCovered, IsNumber, IsCoveredAt, IsCoveredPair, Grows}
 use Rattle.worker_cases.specs.Working.{Counts}
-use Rattle.split_tree.specs.Caches.{AreSmall}
-use Rattle.split_tree.specs.Legal.{IsTooLarge}
+use Rattle.case_journal.specs.Journal.{AreSmall}
+use Rattle.case_journal.specs.Legal.{IsTooLarge}
 
 length_map : {A B : Type 0} (f : A → B) (xs : List A) → length (map f xs) ≡ length xs
 length_map f [] = refl

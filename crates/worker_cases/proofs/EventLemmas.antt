@@ -10,20 +10,20 @@ use Rattle.dep_sets.specs.declared.deps.Assumption.{Assumption}
 use Rattle.proof_steps.specs.declared.step.Step.{Step}
 use Rattle.proof_steps.specs.declared.step.Line.{Line}
 use Rattle.proof_steps.specs.Steps.{numbered, ground_resolve}
-use Rattle.split_tree.specs.declared.event.Entry.{Entry}
-use Rattle.split_tree.specs.declared.event.Event.{Event}
-use Rattle.split_tree.specs.declared.event.Event.TheVariants.{Claim, Choose, Activate, Stop}
-use Rattle.split_tree.specs.declared.event.End.{End}
-use Rattle.split_tree.specs.declared.event.End.TheVariants.{Proved}
+use Rattle.case_journal.specs.declared.event.Entry.{Entry}
+use Rattle.case_journal.specs.declared.event.Event.{Event}
+use Rattle.case_journal.specs.declared.event.Event.TheVariants.{Claim, Choose, Activate, Stop}
+use Rattle.case_journal.specs.declared.event.End.{End}
+use Rattle.case_journal.specs.declared.event.End.TheVariants.{Proved}
 use Rattle.split_tree.specs.State.{State}
-use Rattle.split_tree.specs.Journal.{Setting, ledger, splits, steps}
-use Rattle.split_tree.specs.Paths.{owner, on_path}
-use Rattle.split_tree.specs.Facts.{listed, kept, worked, chosen, claimed, is_number, is_stop, has_stopped, cost_of, before_choice, is_case_rule, published_since}
-use Rattle.split_tree.specs.Picking.{pick_at}
-use Rattle.split_tree.specs.Ending.{first_end, or_else, end_by, no_assumptions}
-use Rattle.split_tree.specs.Legal.{IsClaimable, IsPair, IsPartner, IsPremise, IsListed}
-use Rattle.split_tree.proofs.Climb.{on_path-self}
-use Rattle.split_tree.proofs.Picks.{pick_passive}
+use Rattle.case_journal.specs.Journal.{Setting, ledger, splits, steps}
+use Rattle.case_journal.specs.Paths.{owner, on_path}
+use Rattle.case_journal.specs.Facts.{listed, kept, worked, chosen, claimed, is_number, is_stop, has_stopped, cost_of, before_choice, is_case_rule, published_since}
+use Rattle.case_journal.specs.Picking.{pick_at}
+use Rattle.case_journal.specs.Ending.{first_end, or_else, end_by, no_assumptions}
+use Rattle.case_journal.specs.Legal.{IsClaimable, IsPair, IsPartner, IsPremise, IsListed}
+use Rattle.case_journal.specs.PathLaws.{on_path-self}
+use Rattle.case_journal.specs.PickLaws.{pick_passive}
 use Rattle.worker_cases.specs.Covering.{Grows, AddsLine}
 use Rattle.worker_cases.specs.Working.{listing, IsSound, IsOpen, IsBetween, IsWorking, IsIdle, IsBusy, ArePartners, IsMate, IsNewLine, IsStep}
 use Rattle.worker_cases.proofs.FilingLemmas.{numbered_left, numbered_last, numbered_within}

@@ -5,14 +5,14 @@ use Rattle.std.proofs.lemmas.Bool.{cases_lt}
 use Rattle.std.proofs.lemmas.Option.{slice_get_within}
 use Rattle.proof_steps.specs.declared.step.Line.{Line}
 use Rattle.proof_steps.specs.Steps.{numbered}
-use Rattle.split_tree.specs.declared.event.Entry.{Entry}
-use Rattle.split_tree.specs.declared.event.Event.TheVariants.{Publish}
-use Rattle.split_tree.specs.Journal.{Setting, ledger, nodes, steps}
-use Rattle.split_tree.specs.Paths.{on_path}
-use Rattle.split_tree.specs.Facts.{IsDead, IsLive}
-use Rattle.split_tree.proofs.Climb.{on_path-self, leaf_path}
-use Rattle.split_tree.proofs.Homes.{listed_within}
-use Rattle.split_tree.specs.Legal.{IsLegalJournal}
+use Rattle.case_journal.specs.declared.event.Entry.{Entry}
+use Rattle.case_journal.specs.declared.event.Event.TheVariants.{Publish}
+use Rattle.case_journal.specs.Journal.{Setting, ledger, nodes, steps}
+use Rattle.case_journal.specs.Paths.{on_path}
+use Rattle.case_journal.specs.Facts.{IsDead, IsLive}
+use Rattle.case_journal.specs.PathLaws.{on_path-self, leaf_path}
+use Rattle.case_journal.specs.ListedLaws.{listed_within}
+use Rattle.case_journal.specs.Legal.{IsLegalJournal}
 use Rattle.backjump.proofs.Deaths.{dead_after, dead_below}
 use Rattle.case_queue.specs.declared.queue.CaseQueue.{CaseQueue}
 use Rattle.case_queue.specs.Queues.{HasQueue}

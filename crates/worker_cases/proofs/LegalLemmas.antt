@@ -10,14 +10,14 @@ use Rattle.proof_steps.specs.declared.step.Line.{Line}
 use Rattle.proof_steps.specs.Steps.{ground_resolve}
 use Rattle.proof_steps.specs.Checked.{stated}
 use Rattle.proof_steps.specs.Covering.{IsVariant}
-use Rattle.split_tree.specs.declared.event.Entry.{Entry}
-use Rattle.split_tree.specs.declared.event.Event.TheVariants.{Claim, Choose, Publish, Activate, Saturated, Spent, Big, Full, Stop}
-use Rattle.split_tree.specs.Journal.{Setting, ledger, nodes, rounds, counted, count_of, is_counted}
-use Rattle.split_tree.specs.Paths.{owner, is_leaf}
-use Rattle.split_tree.specs.Facts.{chosen, IsLive}
-use Rattle.split_tree.specs.Picking.{pick_at}
-use Rattle.split_tree.specs.Legal.{IsLegal, IsPublishable, IsListed, AreInferencesCovered, IsUnsplit, IsClaimable}
-use Rattle.split_tree.proofs.Bounds.{rounds_bound}
+use Rattle.case_journal.specs.declared.event.Entry.{Entry}
+use Rattle.case_journal.specs.declared.event.Event.TheVariants.{Claim, Choose, Publish, Activate, Saturated, Spent, Big, Full, Stop}
+use Rattle.case_journal.specs.Journal.{Setting, ledger, nodes, rounds, counted, count_of, is_counted}
+use Rattle.case_journal.specs.Paths.{owner, is_leaf}
+use Rattle.case_journal.specs.Facts.{chosen, IsLive}
+use Rattle.case_journal.specs.Picking.{pick_at}
+use Rattle.case_journal.specs.Legal.{IsLegal, IsPublishable, IsListed, AreInferencesCovered, IsUnsplit, IsClaimable}
+use Rattle.case_journal.specs.BoundLaws.{rounds_bound}
 use Rattle.worker_cases.specs.Working.{IsBetween, IsIdle, IsBusy, IsLarge, IsNewLine}
 use Rattle.worker_cases.proofs.OrderLemmas.{conclude_in_order, own_renumbering}
 use Rattle.backjump.proofs.Deaths.{listed_below, owner_on}

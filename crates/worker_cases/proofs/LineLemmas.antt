@@ -4,13 +4,13 @@ use Rattle.std.specs.Prelude.{MatchBool}
 use Rattle.std.specs.List.{slice_get}
 use Rattle.std.proofs.lemmas.Bool.{cases_lt, false≢true}
 use Rattle.std.proofs.lemmas.Option.{slice_get_within}
-use Rattle.split_tree.specs.declared.event.Entry.{Entry}
-use Rattle.split_tree.specs.Journal.{Setting, ledger, nodes, steps}
-use Rattle.split_tree.specs.Paths.{on_path}
-use Rattle.split_tree.specs.Facts.{listed, IsDead, IsLive}
-use Rattle.split_tree.specs.Legal.{IsLegalJournal}
-use Rattle.split_tree.proofs.Climb.{on_path-self}
-use Rattle.split_tree.proofs.Places.{in_input}
+use Rattle.case_journal.specs.declared.event.Entry.{Entry}
+use Rattle.case_journal.specs.Journal.{Setting, ledger, nodes, steps}
+use Rattle.case_journal.specs.Paths.{on_path}
+use Rattle.case_journal.specs.Facts.{listed, IsDead, IsLive}
+use Rattle.case_journal.specs.Legal.{IsLegalJournal}
+use Rattle.case_journal.specs.PathLaws.{on_path-self}
+use Rattle.case_journal.specs.PlaceLaws.{in_input}
 use Rattle.backjump.proofs.Deaths.{dead_below}
 use Rattle.worker_cases.specs.Covering.{IsNumber}
 use Rattle.worker_cases.specs.Partners.{is_in}

@@ -17,9 +17,9 @@ use Rattle.proof_steps.specs.declared.step.Statement.{Statement}
 use Rattle.proof_steps.specs.declared.step.Step.{Step}
 use Rattle.proof_steps.specs.declared.step.Line.{Line}
 use Rattle.proof_steps.specs.Checked.{AreConclusions, stated}
-use Rattle.split_tree.specs.declared.event.Entry.{Entry}
-use Rattle.split_tree.specs.Journal.{Setting, ledger}
-use Rattle.split_tree.specs.Legal.{IsLegalJournal}
+use Rattle.case_journal.specs.declared.event.Entry.{Entry}
+use Rattle.case_journal.specs.Journal.{Setting, ledger}
+use Rattle.case_journal.specs.Legal.{IsLegalJournal}
 use Rattle.worker_cases.specs.Working.{AreOrdered, IsSound}
 use Rattle.proof_steps.specs.Parts.{Parted, parts_of, part_by, parted_by, left_marks, negation, negated_atom}
 use Rattle.proof_steps.specs.Steps.{numbered, when, fits, without, joined, may_resolve, resolvent, resolved, paramodulated, sides_of, reflexed, equality_factored, conclude, concluded, of_one, of_two, of_three, resolution, factored, paramodulation, rewritten, reflection, equality_factoring, factored_sides, assumed, assumption_of, case_left, case_right, case_both}

@@ -1,16 +1,16 @@
 -- Paths: what was activated at a node of the path is listed at the node.
 use Rattle.std.proofs.Common.{◌≡◌, ℕ, ◌<◌, inl, inr, true, ◌||◌, eqb, List, [], ◌∷◌, Option, Some, None, ◌∙◌, ap}
 use Rattle.std.proofs.lemmas.Bool.{or_cases, or_right, and_parts, eqb-true, false≢true}
-use Rattle.split_tree.specs.declared.event.Entry.{Entry}
-use Rattle.split_tree.specs.declared.event.Event.{Event}
-use Rattle.split_tree.specs.declared.event.Event.TheVariants.{Activate}
-use Rattle.split_tree.specs.Journal.{Setting, nodes, steps}
-use Rattle.split_tree.specs.Paths.{stem, on_path}
-use Rattle.split_tree.specs.Facts.{listed, lists, worked, chosen, is_number, activates}
-use Rattle.split_tree.specs.Legal.{IsLegalJournal}
-use Rattle.split_tree.proofs.Climb.{on_path-self, or_absorb}
-use Rattle.split_tree.proofs.Places.{stem_there}
-use Rattle.split_tree.proofs.Depends.{chosen_listed}
+use Rattle.case_journal.specs.declared.event.Entry.{Entry}
+use Rattle.case_journal.specs.declared.event.Event.{Event}
+use Rattle.case_journal.specs.declared.event.Event.TheVariants.{Activate}
+use Rattle.case_journal.specs.Journal.{Setting, nodes, steps}
+use Rattle.case_journal.specs.Paths.{stem, on_path}
+use Rattle.case_journal.specs.Facts.{listed, lists, worked, chosen, is_number, activates}
+use Rattle.case_journal.specs.Legal.{IsLegalJournal}
+use Rattle.case_journal.specs.PathLaws.{on_path-self, or_absorb}
+use Rattle.case_journal.specs.PlaceLaws.{stem_there}
+use Rattle.case_journal.specs.DependenceLaws.{chosen_listed}
 use Rattle.backjump.proofs.Deaths.{listed_below}
 
 some_number : (o : Option ℕ) (n : ℕ) → is_number o n ≡ true → o ≡ Some n

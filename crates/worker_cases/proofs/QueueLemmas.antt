@@ -3,11 +3,11 @@ use Rattle.std.proofs.Common.{◌≡◌, inl, inr, ℕ, ◌-◌, ◌<◌, Bool, 
 use Rattle.std.specs.List.{slice_get}
 use Rattle.std.proofs.lemmas.Bool.{and_from, and_parts}
 use Rattle.proof_steps.specs.declared.step.Line.{Line}
-use Rattle.split_tree.specs.declared.event.Entry.{Entry}
-use Rattle.split_tree.specs.declared.event.Event.TheVariants.{Choose, Activate}
-use Rattle.split_tree.specs.Journal.{Setting, ledger, nodes, steps}
-use Rattle.split_tree.specs.Facts.{listed, kept, worked, split, IsLive}
-use Rattle.split_tree.specs.Picking.{is_passive}
+use Rattle.case_journal.specs.declared.event.Entry.{Entry}
+use Rattle.case_journal.specs.declared.event.Event.TheVariants.{Choose, Activate}
+use Rattle.case_journal.specs.Journal.{Setting, ledger, nodes, steps}
+use Rattle.case_journal.specs.Facts.{listed, kept, worked, split, IsLive}
+use Rattle.case_journal.specs.Picking.{is_passive}
 use Rattle.case_queue.specs.declared.queue.CaseQueue.{CaseQueue}
 use Rattle.case_queue.specs.Queues.{HasFirst, HasQueue, HasPassive}
 use Rattle.case_queue.proofs.Keeping.{first_keeps}

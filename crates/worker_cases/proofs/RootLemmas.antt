@@ -1,8 +1,8 @@
 -- The root, before the first event.
 use Rattle.std.proofs.Common.{◌≡◌, inl, inr, true, false, [], refl, sym, subst}
-use Rattle.split_tree.specs.Journal.{Setting}
-use Rattle.split_tree.specs.Ending.{has_empty}
-use Rattle.split_tree.proofs.Legals.{settled_root}
+use Rattle.case_journal.specs.Journal.{Setting}
+use Rattle.case_journal.specs.Ending.{has_empty}
+use Rattle.case_journal.specs.RootLaws.{settled_root}
 use Rattle.worker_cases.specs.declared.index.Index.{Index}
 use Rattle.worker_cases.proofs.LineLemmas.{no_lines}
 use Rattle.worker_cases.specs.Working.{IsSound, IsBetween, IsIndex, HasActivations, nothing_else}

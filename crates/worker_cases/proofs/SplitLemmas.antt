@@ -2,16 +2,16 @@
 use Rattle.std.proofs.Common.{◌≡◌, inl, inr, ℕ, ◌<◌, Bool, true, not, eqb, List, ◌∷◌, Some, None, sym, ap, ◌∙◌, subst, arith, length-append, eq-eqb}
 use Rattle.std.proofs.lemmas.Bool.{or_cases, or_right, and_parts, eqb-true, cases_lt}
 use Rattle.proof_steps.specs.declared.step.Line.{Line}
-use Rattle.split_tree.specs.declared.event.Entry.{Entry}
-use Rattle.split_tree.specs.declared.event.Event.TheVariants.{Split}
-use Rattle.split_tree.specs.Journal.{Setting, ledger, nodes, steps}
-use Rattle.split_tree.specs.Paths.{stem, on_path, is_leaf}
-use Rattle.split_tree.specs.Facts.{listed, lists, IsLive}
-use Rattle.split_tree.specs.Ending.{or_else}
-use Rattle.split_tree.specs.Legal.{IsLegalJournal, IsSettled}
-use Rattle.split_tree.proofs.Climb.{on_path-self, stem_old, stem_high, not_true}
-use Rattle.split_tree.proofs.Places.{stem_there, lists_new}
-use Rattle.split_tree.proofs.States.{fresh_chosen}
+use Rattle.case_journal.specs.declared.event.Entry.{Entry}
+use Rattle.case_journal.specs.declared.event.Event.TheVariants.{Split}
+use Rattle.case_journal.specs.Journal.{Setting, ledger, nodes, steps}
+use Rattle.case_journal.specs.Paths.{stem, on_path, is_leaf}
+use Rattle.case_journal.specs.Facts.{listed, lists, IsLive}
+use Rattle.case_journal.specs.Ending.{or_else}
+use Rattle.case_journal.specs.Legal.{IsLegalJournal, IsSettled}
+use Rattle.case_journal.specs.PathLaws.{on_path-self, stem_old, stem_high, not_true}
+use Rattle.case_journal.specs.PlaceLaws.{stem_there, lists_new}
+use Rattle.case_journal.specs.FreshLaws.{fresh_chosen}
 use Rattle.backjump.proofs.Deaths.{dead_after}
 use Rattle.worker_cases.specs.declared.index.Activation.{Activation}
 use Rattle.worker_cases.specs.declared.index.Index.{Index}

@@ -6,14 +6,14 @@ use Rattle.std.proofs.lemmas.List.{append-nil}
 use Rattle.spl_terms.specs.Clauses.{is_empty}
 use Rattle.proof_steps.specs.declared.step.Line.{Line}
 use Rattle.proof_steps.specs.Steps.{numbered}
-use Rattle.split_tree.specs.declared.event.Entry.{Entry}
-use Rattle.split_tree.specs.declared.event.Event.{Event}
-use Rattle.split_tree.specs.declared.event.Event.TheVariants.{Publish, Split}
-use Rattle.split_tree.specs.Journal.{Setting, ledger, nodes, steps}
-use Rattle.split_tree.specs.Paths.{is_leaf, branch, on_path}
-use Rattle.split_tree.specs.Facts.{listed, IsEmptyAt, IsDead}
-use Rattle.split_tree.specs.Legal.{IsLegalJournal, IsSettled}
-use Rattle.split_tree.proofs.Homes.{listed_within}
+use Rattle.case_journal.specs.declared.event.Entry.{Entry}
+use Rattle.case_journal.specs.declared.event.Event.{Event}
+use Rattle.case_journal.specs.declared.event.Event.TheVariants.{Publish, Split}
+use Rattle.case_journal.specs.Journal.{Setting, ledger, nodes, steps}
+use Rattle.case_journal.specs.Paths.{is_leaf, branch, on_path}
+use Rattle.case_journal.specs.Facts.{listed, IsEmptyAt, IsDead}
+use Rattle.case_journal.specs.Legal.{IsLegalJournal, IsSettled}
+use Rattle.case_journal.specs.ListedLaws.{listed_within}
 use Rattle.worker_cases.specs.Covering.{Grows}
 use Rattle.worker_cases.specs.Working.{listing}
 use Rattle.worker_cases.proofs.FilingLemmas.{numbered_left, numbered_last}

@@ -8,16 +8,16 @@ use Rattle.proof_steps.specs.declared.step.Line.{Line}
 use Rattle.proof_steps.specs.Steps.{numbered}
 use Rattle.proof_steps.specs.Checked.{resolution_of_lines}
 use Rattle.proof_steps.specs.Covering.{IsCoveredBy}
-use Rattle.split_tree.specs.declared.event.Entry.{Entry}
-use Rattle.split_tree.specs.declared.event.Event.{Event}
-use Rattle.split_tree.specs.declared.event.Event.TheVariants.{Claim, Choose, Activate}
+use Rattle.case_journal.specs.declared.event.Entry.{Entry}
+use Rattle.case_journal.specs.declared.event.Event.{Event}
+use Rattle.case_journal.specs.declared.event.Event.TheVariants.{Claim, Choose, Activate}
 use Rattle.split_tree.specs.State.{State}
-use Rattle.split_tree.specs.Journal.{Setting, ledger, nodes, rounds}
-use Rattle.split_tree.specs.Paths.{on_path}
-use Rattle.split_tree.specs.Facts.{listed, worked, chosen, is_number, IsLive, before_choice}
-use Rattle.split_tree.specs.Legal.{IsPremise, IsListed, IsUnsplit, AreInferencesCovered}
-use Rattle.split_tree.proofs.Climb.{leaf_path}
-use Rattle.split_tree.proofs.Homes.{listed_within}
+use Rattle.case_journal.specs.Journal.{Setting, ledger, nodes, rounds}
+use Rattle.case_journal.specs.Paths.{on_path}
+use Rattle.case_journal.specs.Facts.{listed, worked, chosen, is_number, IsLive, before_choice}
+use Rattle.case_journal.specs.Legal.{IsPremise, IsListed, IsUnsplit, AreInferencesCovered}
+use Rattle.case_journal.specs.PathLaws.{leaf_path}
+use Rattle.case_journal.specs.ListedLaws.{listed_within}
 use Rattle.case_queue.specs.declared.queue.CaseQueue.{CaseQueue}
 use Rattle.case_queue.specs.Queues.{HasQueue}
 use Rattle.worker_cases.specs.declared.filing.Filing.{Filing}

@@ -7,14 +7,13 @@ use Rattle.proof_steps.specs.declared.step.Statement.{Statement}
 use Rattle.proof_steps.specs.declared.step.Line.{Line}
 use Rattle.proof_steps.specs.Steps.{numbered, ground_resolve}
 use Rattle.proof_steps.specs.Checked.{IsConclusion, stated}
-use Rattle.split_tree.specs.declared.event.Entry.{Entry}
+use Rattle.case_journal.specs.declared.event.Entry.{Entry}
 use Rattle.split_tree.specs.State.{State}
-use Rattle.split_tree.specs.Journal.{Setting, ledger, steps, nodes, splits}
-use Rattle.split_tree.specs.Paths.{is_leaf, on_path}
-use Rattle.split_tree.specs.Facts.{listed, worked, split, chosen, IsDead, IsLive, Holds, before_choice, published_since}
-use Rattle.split_tree.specs.Ending.{has_empty, first_end}
-use Rattle.split_tree.specs.Legal.{IsPair, IsPartner, IsPremise, IsTooLarge, IsListed, IsSettled, IsLegalJournal}
-use Rattle.split_tree.specs.Caches.{AreSmall}
+use Rattle.case_journal.specs.Journal.{Setting, ledger, steps, nodes, splits, AreSmall}
+use Rattle.case_journal.specs.Paths.{is_leaf, on_path}
+use Rattle.case_journal.specs.Facts.{listed, worked, split, chosen, IsDead, IsLive, Holds, before_choice, published_since}
+use Rattle.case_journal.specs.Ending.{has_empty, first_end}
+use Rattle.case_journal.specs.Legal.{IsPair, IsPartner, IsPremise, IsTooLarge, IsListed, IsSettled, IsLegalJournal}
 use Rattle.case_queue.specs.Queues.{HasQueue}
 use Rattle.worker_cases.specs.declared.halt.Halt.{Halt}
 use Rattle.worker_cases.specs.declared.halt.Halt.TheVariants as halts

@@ -1,16 +1,17 @@
 //! One case after another: the worker claims the leftmost live leaf and works there until the case is split or closed.
 ghost use Rattle.std.specs.Prelude.{◌≡◌, ◌<◌, ◌≤◌, [], IsSome, OnOk, IfErr, IsErr, None, false};
-ghost use Rattle.split_tree.specs.Journal.{rounds};
-ghost use Rattle.split_tree.specs.Ending.{has_empty, first_end, reason};
-ghost use Rattle.split_tree.specs.Legal.{IsClaimable};
+ghost use Rattle.case_journal.specs.Journal.{rounds};
+ghost use Rattle.case_journal.specs.Ending.{has_empty, first_end, reason};
+ghost use Rattle.case_journal.specs.Legal.{IsClaimable};
 ghost use Rattle.worker_cases.specs.declared.halt.Halt.TheVariants.{Closed};
 ghost use Rattle.worker_cases.specs.Working.{IsBetween, IsIdle, IsIndex, IsWhole, nothing_else, IsHalted};
 
 use crate::halt::Halt;
 use crate::index::Index;
 use crate::rounds::work_round;
+use case_journal::Event;
 use spl_terms::order_stays;
-use split_tree::{Event, Table};
+use split_tree::Table;
 use std::alloc::{AllocError, Global};
 
 /// Claims the node, and files what counts there.

@@ -1,7 +1,7 @@
 //! Numbers of lines filed under keys of their atoms.
 ghost use Rattle.std.specs.Prelude.{◌≡◌, ℕ, [], fold, map, unwrap_or, nat_eq, OnOk, OnErr, MatchBool};
 ghost use Rattle.indexmap.specs.IndexMap.{get};
-ghost use Rattle.split_tree.specs.Journal.{ledger};
+ghost use Rattle.case_journal.specs.Journal.{ledger};
 ghost use Rattle.worker_cases.specs.Covering.{IsSubsumed, IsNew};
 ghost use Rattle.worker_cases.specs.Filing.{mixed, term_hash, key, clause_key, bit_of, with_bits, clause_mask, is_within, IsLinked, IsAdded, HasFiled, SubsumesBy, IsSubsumedByFiled, IsNoEntryOf, HasNoSubclause, HaveNoSubclause, AreNoSubclauses};
 ghost use Rattle.worker_cases.specs.Working.{listing};

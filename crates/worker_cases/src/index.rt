@@ -2,9 +2,9 @@
 ghost use Rattle.std.specs.Prelude.{◌≡◌, ◌<◌, ◌≤◌, [], Some, true, IfOk, OnOk, MatchBool};
 ghost use Rattle.proof_steps.specs.declared.step.Line.{Line};
 ghost use Rattle.proof_steps.specs.Steps.{numbered};
-ghost use Rattle.split_tree.specs.Journal.{ledger, nodes, steps};
-ghost use Rattle.split_tree.specs.Paths.{on_path};
-ghost use Rattle.split_tree.specs.Facts.{listed, IsLive};
+ghost use Rattle.case_journal.specs.Journal.{ledger, nodes, steps};
+ghost use Rattle.case_journal.specs.Paths.{on_path};
+ghost use Rattle.case_journal.specs.Facts.{listed, IsLive};
 ghost use Rattle.worker_cases.specs.Filing.{HasFiled, IsFiledLine, IsLinked, FilesWanted};
 ghost use Rattle.worker_cases.specs.Partners.{HasClause, HasLiterals};
 ghost use Rattle.worker_cases.specs.Working.{listing, IsLiveLine, HasLines, AddsWanted, HasActivations, IsGiven, IsIndex, IsWhole, nothing_else};

@@ -2,7 +2,7 @@
 ghost use Rattle.std.specs.Prelude.{◌≡◌, ◌==◌, if◌then◌else◌, ℕ, OnOk, IfErr, IsErr};
 ghost use Rattle.spl_terms.specs.declared.clause.Part.{Part};
 ghost use Rattle.worker_cases.specs.Covering.{IsCoveredAt, IsCoveredPair};
-ghost use Rattle.split_tree.specs.Journal.{rounds};
+ghost use Rattle.case_journal.specs.Journal.{rounds};
 ghost use Rattle.worker_cases.specs.declared.halt.Halt.TheVariants.{Closed};
 ghost use Rattle.worker_cases.specs.Working.{listing, IsBusy, IsMate, IsLarge, IsWhole, pending, IsStep, IsHalted, IsLeft};
 
@@ -10,8 +10,9 @@ use crate::halt::Halt;
 use crate::index::Index;
 use crate::ledger::{count_of, resolve_at};
 use crate::publishing::publish_conclusion;
+use case_journal::Event;
 use spl_terms::{Part, PushError};
-use split_tree::{Event, Table};
+use split_tree::Table;
 use std::alloc::Global;
 
 /// Ends the journal, since a conclusion of the chosen clause with the partner is too large.

@@ -3,7 +3,7 @@ ghost use Rattle.std.specs.Prelude.{◌≡◌, option_copied};
 ghost use Rattle.spl_terms.specs.declared.clause.Part.{Part};
 ghost use Rattle.proof_steps.specs.Steps.{numbered, Sized};
 ghost use Rattle.proof_steps.specs.Checked.{resolution_of_lines, stated};
-ghost use Rattle.split_tree.specs.Journal.{ledger};
+ghost use Rattle.case_journal.specs.Journal.{ledger};
 ghost use Rattle.worker_cases.specs.Working.{Counts};
 
 use proof_steps::{Line, Statement, resolve_statements};

@@ -3,7 +3,7 @@ ghost use Rattle.std.specs.Prelude.{◌≡◌, ◌<◌, ◌≤◌, ◌++◌, ◌
 ghost use Rattle.spl_terms.specs.Clauses.{clause_symbols, is_empty};
 ghost use Rattle.proof_steps.specs.Steps.{ground_resolve};
 ghost use Rattle.proof_steps.specs.Checked.{resolution_of_lines};
-ghost use Rattle.split_tree.specs.Journal.{ledger, steps, rounds, counted};
+ghost use Rattle.case_journal.specs.Journal.{ledger, steps, rounds, counted};
 ghost use Rattle.worker_cases.specs.declared.halt.Halt.TheVariants.{Closed};
 ghost use Rattle.worker_cases.specs.Covering.{IsCovered, AddsLine};
 ghost use Rattle.worker_cases.specs.Working.{listing, IsBusy, IsMate, IsNewLine, IsWhole, pending, KeepsWork, IsStep, IsHalted, IsLeft};
@@ -12,10 +12,11 @@ use crate::filing::{clause_key, clause_mask, is_subsumed};
 use crate::halt::Halt;
 use crate::index::Index;
 use backjump::close;
+use case_journal::Event;
 use proof_steps::{Line, Rule, Statement, Step};
 use spl_terms::{Items, Part, order_stays};
 use spl_truth::{Subst, is_tautology};
-use split_tree::{Event, Table};
+use split_tree::Table;
 use std::alloc::{AllocError, Global};
 
 /// The step that resolves two lines without variables.

@@ -1,9 +1,9 @@
 //! The rounds of a worker at the node that it holds.
 ghost use Rattle.std.specs.Prelude.{◌≡◌, ◌<◌, ◌≤◌, ◌∷◌, ℕ, OnOk, IfOk, IfErr, Some, None, MatchBool, MatchOption};
-ghost use Rattle.split_tree.specs.Journal.{rounds, splits, steps};
-ghost use Rattle.split_tree.specs.declared.event.Event.TheVariants.{Choose};
-ghost use Rattle.split_tree.specs.Picking.{pick_at};
-ghost use Rattle.split_tree.specs.Legal.{IsUnsplit};
+ghost use Rattle.case_journal.specs.Journal.{rounds, splits, steps};
+ghost use Rattle.case_journal.specs.declared.event.Event.TheVariants.{Choose};
+ghost use Rattle.case_journal.specs.Picking.{pick_at};
+ghost use Rattle.case_journal.specs.Legal.{IsUnsplit};
 ghost use Rattle.clause_splitting.specs.Splitting.{ArePartsOf};
 ghost use Rattle.worker_cases.specs.declared.halt.Halt.TheVariants.{Closed};
 ghost use Rattle.worker_cases.specs.Working.{IsBetween, IsIdle, IsBusy, ArePartners, IsIndex, IsWhole, nothing_else, IsHalted, IsLeft};
@@ -11,10 +11,11 @@ ghost use Rattle.worker_cases.specs.Working.{IsBetween, IsIdle, IsBusy, ArePartn
 use crate::halt::Halt;
 use crate::index::Index;
 use crate::working::work_off;
+use case_journal::Event;
 use clause_splitting::split;
 use proof_steps::{Parts, split_of};
 use spl_terms::order_stays;
-use split_tree::{Event, Table};
+use split_tree::Table;
 use std::alloc::{AllocError, Global};
 
 /// The parts of the clause with this number, from 1, where it may be split; none where it has no parts, or where as many

@@ -2,10 +2,10 @@
 ghost use Rattle.std.specs.Prelude.{◌≡◌, ◌⊎◌, ◌<◌, ◌≤◌, ◌-◌, ℕ, [], length, IsSome, OnOk, OnErr, IfOk, IfErr, IsErr, Some, None, true, false, MatchBool, MatchOption};
 ghost use Rattle.proof_steps.specs.declared.step.Line.{Line};
 ghost use Rattle.proof_steps.specs.Steps.{numbered};
-ghost use Rattle.split_tree.specs.Journal.{ledger, nodes, rounds, steps};
-ghost use Rattle.split_tree.specs.Facts.{worked};
-ghost use Rattle.split_tree.specs.Ending.{has_empty, first_end, reason};
-ghost use Rattle.split_tree.specs.Legal.{IsUnsplit, IsClaimable};
+ghost use Rattle.case_journal.specs.Journal.{ledger, nodes, rounds, steps};
+ghost use Rattle.case_journal.specs.Facts.{worked};
+ghost use Rattle.case_journal.specs.Ending.{has_empty, first_end, reason};
+ghost use Rattle.case_journal.specs.Legal.{IsUnsplit, IsClaimable};
 ghost use Rattle.worker_cases.specs.declared.halt.Halt.TheVariants.{Closed};
 ghost use Rattle.worker_cases.specs.Covering.{IsCoveredPair};
 ghost use Rattle.worker_cases.specs.Partners.{is_in};
@@ -15,8 +15,9 @@ use crate::halt::Halt;
 use crate::index::{Activation, Index};
 use crate::inferring::resolve_both;
 use crate::partners::{file_clause, partners_of};
+use case_journal::Event;
 use spl_terms::{Clause, order_stays};
-use split_tree::{Event, Table};
+use split_tree::Table;
 use std::alloc::{AllocError, Global};
 
 /// Files the clause as one that is about to be activated at the node, and says which activated clauses may resolve with

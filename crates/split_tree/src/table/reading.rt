@@ -3,17 +3,16 @@ ghost use Rattle.std.specs.Prelude.{◌≡◌, ℕ, ◌+◌, ◌<◌, ◌≤◌,
 ghost use Rattle.spl_truth.specs.Picking.{better};
 ghost use Rattle.proof_steps.specs.declared.step.Line.{Line};
 ghost use Rattle.proof_steps.specs.Steps.{numbered};
-ghost use Rattle.split_tree.specs.Journal.{ledger, nodes, steps, counted, rounds, splits};
-ghost use Rattle.split_tree.specs.Paths.{on_path, branch, owner, is_leaf, leaves};
-ghost use Rattle.split_tree.specs.Facts.{listed, kept, worked, split, chosen, claimed, IsDead, IsLive, Holds};
-ghost use Rattle.split_tree.specs.Picking.{is_passive, choices, weighed, pick_at};
-ghost use Rattle.split_tree.specs.Ending.{reason};
-ghost use Rattle.split_tree.specs.Legal.{IsClaimable, IsNextClaim, IsFirstEmpty};
+ghost use Rattle.case_journal.specs.Journal.{ledger, nodes, steps, counted, rounds, splits};
+ghost use Rattle.case_journal.specs.Paths.{on_path, branch, owner, is_leaf, leaves};
+ghost use Rattle.case_journal.specs.Facts.{listed, kept, worked, split, chosen, claimed, IsDead, IsLive, Holds};
+ghost use Rattle.case_journal.specs.Picking.{is_passive, choices, weighed, pick_at};
+ghost use Rattle.case_journal.specs.Ending.{reason};
+ghost use Rattle.case_journal.specs.Legal.{IsClaimable, IsNextClaim, IsFirstEmpty};
 ghost use Rattle.split_tree.specs.Caches.{at_home, homes, own_empty, smaller};
 
 use super::Table;
-use crate::branch::Branch;
-use crate::event::{End, Event, Limits};
+use case_journal::{Branch, End, Event, Limits};
 use dep_sets::{Assumption, Deps};
 use proof_steps::Line;
 use spl_terms::Clause;

@@ -1,7 +1,7 @@
 use Rattle.std.specs.List.{slice_get}
 use Rattle.std.proofs.Common.{◌≡◌, ◌≤◌, ◌∙◌, ℕ, suc, Some, ap, sym, subst, arith, refl, length}
-use Rattle.split_tree.specs.declared.event.Event.{Event}
-use Rattle.split_tree.specs.Legal.{IsLegalJournal}
+use Rattle.case_journal.specs.declared.event.Event.{Event}
+use Rattle.case_journal.specs.Legal.{IsLegalJournal}
 use Rattle.backjump.specs.Plans.{appended, IsOneLine}
 use Rattle.backjump.proofs.Follow.{appended_legal, cost_one, lines_one}
 use Rattle.backjump.proofs.closing.append_all.Goals as goal

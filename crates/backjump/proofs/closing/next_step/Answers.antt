@@ -1,5 +1,5 @@
 use Rattle.std.proofs.Common.{arith}
-use Rattle.split_tree.proofs.Homes.{listed_within}
+use Rattle.case_journal.specs.ListedLaws.{listed_within}
 use Rattle.backjump.proofs.Follow.{twin_there, parent_read, next_event}
 use Rattle.backjump.proofs.closing.next_step.Goals as goal
 

@@ -1,6 +1,6 @@
 use Rattle.std.proofs.Common.{◌+◌, ◌∙◌, ap, sym, subst, arith, refl, length, false, slice_get}
 use Rattle.std.proofs.lemmas.Option.{slice_get_read}
-use Rattle.split_tree.specs.declared.event.Event.TheVariants.{Publish}
+use Rattle.case_journal.specs.declared.event.Event.TheVariants.{Publish}
 use Rattle.backjump.proofs.Follow.{plan_first, plan_more, plan_done, next_low, root_settled, twin_settled, next_of, none_due, IsPlanned}
 use Rattle.backjump.proofs.closing.planned.Goals as goal
 

@@ -1,5 +1,5 @@
 use Rattle.std.proofs.Common.{false}
-use Rattle.split_tree.specs.declared.event.Event.TheVariants.{Publish}
+use Rattle.case_journal.specs.declared.event.Event.TheVariants.{Publish}
 use Rattle.backjump.proofs.Follow.{IsPlanned}
 use Rattle.backjump.proofs.closing.planned.Given as goal
 

@@ -1,7 +1,7 @@
 use Rattle.std.proofs.Common.{◌≡◌, ◌+◌, ◌*◌, subst, arith}
-use Rattle.split_tree.specs.Paths.{branch_to}
+use Rattle.case_journal.specs.Paths.{branch_to}
 use Rattle.backjump.proofs.Pairs.{pair_at}
-use Rattle.split_tree.specs.Facts.{IsLive}
+use Rattle.case_journal.specs.Facts.{IsLive}
 use Rattle.backjump.proofs.Steps.{settled_left, settled_right, can_close}
 use Rattle.backjump.proofs.settling.closed_above.Goals as goal
 

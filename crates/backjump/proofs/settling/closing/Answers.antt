@@ -1,4 +1,4 @@
-use Rattle.split_tree.proofs.Homes.{listed_within}
+use Rattle.case_journal.specs.ListedLaws.{listed_within}
 use Rattle.backjump.specs.Cases.{IsClosingEvent}
 use Rattle.backjump.proofs.Steps.{closing_event, split_within, if_ok}
 use Rattle.backjump.proofs.settling.closing.Goals as goal

@@ -1,5 +1,5 @@
 use Rattle.std.proofs.Common.{◌-◌, ◌∙◌, inl, ap, subst, arith}
-use Rattle.split_tree.specs.Facts.{IsLive}
+use Rattle.case_journal.specs.Facts.{IsLive}
 use Rattle.backjump.proofs.Pairs.{pairs}
 use Rattle.backjump.proofs.Steps.{none_added, closes_trans, settled_from, all_settled}
 use Rattle.backjump.proofs.settling.settle.Goals as goal

@@ -1,7 +1,7 @@
 use Rattle.std.proofs.Common.{◌≡◌, ◌+◌, ◌*◌, ◌<◌, ◌≤◌, ℕ, None}
-use Rattle.split_tree.specs.Journal.{nodes}
-use Rattle.split_tree.specs.Facts.{IsLive}
-use Rattle.split_tree.specs.Ending.{first_end}
+use Rattle.case_journal.specs.Journal.{nodes}
+use Rattle.case_journal.specs.Facts.{IsLive}
+use Rattle.case_journal.specs.Ending.{first_end}
 use Rattle.backjump.specs.Cases.{OnlyCloses, IsOpenOrProved, IsSettledAbove}
 use Rattle.backjump.proofs.settling.settle.Given as goal
 

@@ -1,6 +1,6 @@
 use Rattle.std.proofs.Common.{◌≡◌, ◌++◌, map}
 use Rattle.proof_steps.specs.declared.step.Line.{Line}
-use Rattle.split_tree.specs.Legal.{negations}
+use Rattle.case_journal.specs.Legal.{negations}
 use Rattle.clause_splitting.specs.Splitting.{AreConcluded}
 use Rattle.clause_splitting.proofs.splitting.add_negations.Given as goal
 

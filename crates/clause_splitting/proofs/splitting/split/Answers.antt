@@ -1,8 +1,8 @@
 use Rattle.std.proofs.Common.{◌∙◌, ◌+◌, ◌<◌, ◌≤◌, false, ◌∷◌, length, replicate, ap, arith}
-use Rattle.split_tree.specs.declared.event.Event.TheVariants.{Split, Full}
-use Rattle.split_tree.specs.Journal.{counted}
-use Rattle.split_tree.specs.Legal.{IsLegal, IsSettled}
-use Rattle.split_tree.proofs.Homes.{listed_within}
+use Rattle.case_journal.specs.declared.event.Event.TheVariants.{Split, Full}
+use Rattle.case_journal.specs.Journal.{counted}
+use Rattle.case_journal.specs.Legal.{IsLegal, IsSettled}
+use Rattle.case_journal.specs.ListedLaws.{listed_within}
 use Rattle.clause_splitting.proofs.Legality.{MaySplit, AreSplitLines, splittable, legal_split, legal_full, moved}
 use Rattle.clause_splitting.proofs.Tree.{split_settled}
 use Rattle.clause_splitting.proofs.splitting.split.Goals as goal

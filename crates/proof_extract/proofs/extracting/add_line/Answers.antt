@@ -1,4 +1,4 @@
-use Rattle.split_tree.specs.Journal.{ledger}
+use Rattle.case_journal.specs.Journal.{ledger}
 use Rattle.proof_steps.specs.Steps.{numbered}
 use Rattle.proof_extract.specs.Extracting.{new_number}
 use Rattle.proof_extract.proofs.Extracts.{taken_none}

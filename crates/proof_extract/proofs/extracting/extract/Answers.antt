@@ -1,7 +1,7 @@
 use Rattle.std.proofs.Common.{◌≡◌, ◌≤◌, length, ap, ◌∙◌, subst, sym}
 use Rattle.proof_steps.specs.Checked.{AreConclusions, Checked}
 use Rattle.spl_truth.specs.Truth.{Refuted}
-use Rattle.split_tree.specs.Journal.{ledger}
+use Rattle.case_journal.specs.Journal.{ledger}
 use Rattle.proof_extract.specs.Extracting.{AreSplitsMarked, extracted, IsProofOf}
 use Rattle.proof_extract.specs.Contradictions.{IsContradictory}
 use Rattle.proof_extract.proofs.Parents.{splits_marked}

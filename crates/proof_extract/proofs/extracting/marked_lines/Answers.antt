@@ -1,5 +1,5 @@
 use Rattle.std.proofs.Common.{◌∙◌}
-use Rattle.split_tree.specs.Journal.{ledger}
+use Rattle.case_journal.specs.Journal.{ledger}
 use Rattle.proof_extract.specs.Extracting.{new_number}
 use Rattle.proof_extract.proofs.Extracts.{extract_next}
 use Rattle.proof_extract.proofs.extracting.marked_lines.Goals as goal

@@ -1,5 +1,5 @@
 use Rattle.std.proofs.Common.{◌≡◌, map, ◌++◌, drop}
-use Rattle.split_tree.specs.Journal.{ledger}
+use Rattle.case_journal.specs.Journal.{ledger}
 use Rattle.proof_extract.specs.Extracting.{new_number, renumbered_line, pick_marked, extracted}
 use Rattle.proof_extract.proofs.extracting.marked_lines.Given as goal
 

@@ -1,5 +1,5 @@
 use Rattle.std.proofs.Common.{◌-◌, refl, arith}
-use Rattle.split_tree.specs.Journal.{ledger}
+use Rattle.case_journal.specs.Journal.{ledger}
 use Rattle.proof_extract.proofs.Parents.{parents_before}
 use Rattle.proof_extract.proofs.MarkLemmas.{marked_down_at}
 use Rattle.proof_extract.proofs.marking.ancestors.Goals as goal

@@ -1,5 +1,5 @@
 use Rattle.std.proofs.Common.{◌≤◌}
-use Rattle.split_tree.specs.Journal.{ledger}
+use Rattle.case_journal.specs.Journal.{ledger}
 use Rattle.proof_extract.proofs.MarkLemmas.{AreMarkedTo}
 use Rattle.proof_extract.proofs.marking.ancestors.Given as goal
 

@@ -1,5 +1,5 @@
 use Rattle.std.proofs.Common.{◌≤◌, ℕ}
-use Rattle.split_tree.specs.Journal.{ledger}
+use Rattle.case_journal.specs.Journal.{ledger}
 use Rattle.proof_extract.specs.Contradictions.{IsContradictory}
 use Rattle.proof_extract.proofs.searching.first_contradiction.Given as goal
 

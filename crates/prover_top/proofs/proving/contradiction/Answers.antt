@@ -1,4 +1,4 @@
-use Rattle.split_tree.specs.Journal.{ledger}
+use Rattle.case_journal.specs.Journal.{ledger}
 use Rattle.prover_top.proofs.Ends.{proved_by}
 use Rattle.prover_top.proofs.Contradicted.{has_contradiction, contradictory_within}
 use Rattle.prover_top.proofs.proving.contradiction.Goals as goal

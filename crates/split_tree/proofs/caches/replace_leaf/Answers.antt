@@ -3,7 +3,7 @@ use Rattle.std.specs.Prelude.{insert, slice_set}
 use Rattle.std.specs.List.{slice_get}
 use Rattle.std.proofs.lemmas.Bool.{cases_lt}
 use Rattle.std.proofs.lemmas.Option.{slice_get_read}
-use Rattle.split_tree.specs.Paths.{replaced}
+use Rattle.case_journal.specs.Paths.{replaced}
 use Rattle.split_tree.proofs.Lists.{replaced_at, replaced_none}
 use Rattle.split_tree.proofs.caches.replace_leaf.Goals as goal
 

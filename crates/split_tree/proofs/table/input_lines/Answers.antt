@@ -2,9 +2,8 @@ use Rattle.std.proofs.Common.{◌≡◌, ◌+◌, ◌≤◌, ◌∙◌, ◌++◌
 use Rattle.std.proofs.lemmas.Option.{slice_get_read}
 use Rattle.spl_terms.specs.Clauses.{clause_symbols}
 use Rattle.proof_steps.specs.declared.step.Line.{Line}
-use Rattle.split_tree.specs.Caches.{AreSmall}
-use Rattle.split_tree.specs.Journal.{input_line, input_lines}
-use Rattle.split_tree.proofs.Lists.{input_lines-more, AreSmall-append}
+use Rattle.case_journal.specs.Journal.{AreSmall, input_line, input_lines}
+use Rattle.case_journal.specs.ListLaws.{input_lines-more, AreSmall-append}
 use Rattle.split_tree.proofs.table.input_lines.Goals as goal
 
 one_small : (l : Line) → clause_symbols l.stated.clause ≤ 4096 → AreSmall (l ∷ [])

@@ -1,6 +1,5 @@
 use Rattle.std.proofs.Common.{◌≡◌, take}
-use Rattle.split_tree.specs.Journal.{input_lines}
-use Rattle.split_tree.specs.Caches.{AreSmall}
+use Rattle.case_journal.specs.Journal.{input_lines, AreSmall}
 use Rattle.split_tree.proofs.table.input_lines.Given as goal
 
 abbrev pub invariant-loop-k : goal.invariant-loop-k

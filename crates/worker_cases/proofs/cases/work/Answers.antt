@@ -1,5 +1,5 @@
 use Rattle.std.proofs.Common.{◌∙◌, [], refl, ap, arith, subst, sym}
-use Rattle.split_tree.proofs.Bounds.{rounds_bound}
+use Rattle.case_journal.specs.BoundLaws.{rounds_bound}
 use Rattle.worker_cases.specs.Working.{IsSound, IsBetween, IsIndex}
 use Rattle.worker_cases.proofs.OrderLemmas.{sound_of}
 use Rattle.worker_cases.proofs.RootLemmas.{root_between, root_index}

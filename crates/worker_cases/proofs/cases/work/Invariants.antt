@@ -1,5 +1,5 @@
 use Rattle.std.proofs.Common.{◌≡◌, ◌-◌}
-use Rattle.split_tree.specs.Journal.{rounds}
+use Rattle.case_journal.specs.Journal.{rounds}
 use Rattle.worker_cases.specs.Working.{IsBetween, IsIndex}
 use Rattle.worker_cases.proofs.cases.work.Given as goal
 

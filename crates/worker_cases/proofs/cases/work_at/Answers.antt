@@ -1,6 +1,6 @@
 use Rattle.std.proofs.Common.{◌∙◌, ap, arith, subst}
 use Rattle.std.specs.Prelude.{MatchBool}
-use Rattle.split_tree.proofs.Bounds.{rounds_bound}
+use Rattle.case_journal.specs.BoundLaws.{rounds_bound}
 use Rattle.worker_cases.specs.Working.{IsIdle, IsWhole, IsBetween, IsIndex, nothing_else}
 use Rattle.worker_cases.proofs.cases.work_at.Goals as goal
 

@@ -1,4 +1,4 @@
-use Rattle.split_tree.specs.Journal.{ledger}
+use Rattle.case_journal.specs.Journal.{ledger}
 use Rattle.std.proofs.Common.{subst}
 use Rattle.worker_cases.specs.Filing.{HaveNoSubclause, before_arrow, after_arrow}
 use Rattle.worker_cases.proofs.FilingLemmas.{matched}

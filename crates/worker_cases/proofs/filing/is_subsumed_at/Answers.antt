@@ -1,7 +1,7 @@
 use Rattle.std.proofs.Common.{◌≡◌, ◌∙◌, Some, None, refl, sym, ap}
 use Rattle.std.specs.Prelude.{option_copied}
 use Rattle.proof_steps.specs.Steps.{numbered}
-use Rattle.split_tree.specs.Journal.{ledger}
+use Rattle.case_journal.specs.Journal.{ledger}
 use Rattle.worker_cases.proofs.FilingLemmas.{under_way_from, under_way_more, under_way_ends}
 use Rattle.worker_cases.proofs.filing.is_subsumed_at.Goals as goal
 

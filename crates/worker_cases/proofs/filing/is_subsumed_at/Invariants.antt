@@ -1,4 +1,4 @@
-use Rattle.split_tree.specs.Journal.{ledger}
+use Rattle.case_journal.specs.Journal.{ledger}
 use Rattle.worker_cases.proofs.FilingLemmas.{IsUnderWay}
 use Rattle.worker_cases.proofs.filing.is_subsumed_at.Given as goal
 

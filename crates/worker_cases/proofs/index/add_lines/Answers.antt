@@ -1,5 +1,5 @@
 use Rattle.std.proofs.Common.{◌≡◌, subst, arith}
-use Rattle.split_tree.specs.Journal.{steps}
+use Rattle.case_journal.specs.Journal.{steps}
 use Rattle.worker_cases.specs.Working.{HasLines}
 use Rattle.worker_cases.proofs.LineLemmas.{lines_more}
 use Rattle.worker_cases.proofs.index.add_lines.Goals as goal

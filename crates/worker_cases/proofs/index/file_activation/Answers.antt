@@ -1,5 +1,5 @@
 use Rattle.std.proofs.Common.{◌∙◌, sym}
-use Rattle.split_tree.specs.Paths.{on_path}
+use Rattle.case_journal.specs.Paths.{on_path}
 use Rattle.worker_cases.proofs.FilingLemmas.{wanted}
 use Rattle.worker_cases.proofs.index.file_activation.Goals as goal
 

@@ -1,4 +1,4 @@
-use Rattle.split_tree.specs.Journal.{ledger}
+use Rattle.case_journal.specs.Journal.{ledger}
 use Rattle.worker_cases.specs.Partners.{HasLiterals}
 use Rattle.worker_cases.proofs.IndexLemmas.{IsEarly}
 use Rattle.worker_cases.proofs.index.file_activations.Given as goal

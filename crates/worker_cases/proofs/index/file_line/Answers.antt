@@ -1,7 +1,7 @@
 use Rattle.std.proofs.Common.{◌∙◌, sym}
 use Rattle.proof_steps.specs.declared.step.Line.{Line}
-use Rattle.split_tree.specs.Journal.{ledger}
-use Rattle.split_tree.specs.Facts.{listed}
+use Rattle.case_journal.specs.Journal.{ledger}
+use Rattle.case_journal.specs.Facts.{listed}
 use Rattle.worker_cases.specs.Filing.{IsFiledLine}
 use Rattle.worker_cases.proofs.FilingLemmas.{wanted, files_added, line_filed}
 use Rattle.worker_cases.proofs.WorkLemmas.{the_line}

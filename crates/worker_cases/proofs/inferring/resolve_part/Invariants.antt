@@ -1,5 +1,5 @@
 use Rattle.std.proofs.Common.{◌≡◌}
-use Rattle.split_tree.specs.Journal.{rounds}
+use Rattle.case_journal.specs.Journal.{rounds}
 use Rattle.worker_cases.specs.Working.{listing, IsStep, IsWhole, pending}
 use Rattle.worker_cases.proofs.CoverLemmas.{CoversRow}
 use Rattle.worker_cases.proofs.inferring.resolve_part.Given as goal

@@ -1,7 +1,7 @@
 use Rattle.std.proofs.Common.{◌==◌, ◌∙◌, refl, sym, subst, Err}
 use Rattle.proof_steps.specs.Steps.{Sized}
 use Rattle.proof_steps.specs.Checked.{resolution_of_lines}
-use Rattle.split_tree.specs.Journal.{ledger}
+use Rattle.case_journal.specs.Journal.{ledger}
 use Rattle.worker_cases.specs.Working.{listing, IsLarge}
 use Rattle.worker_cases.proofs.CoverLemmas.{one_covered, large_from}
 use Rattle.worker_cases.proofs.EventLemmas.{the_partner}

@@ -1,8 +1,8 @@
 use Rattle.std.proofs.Common.{◌∷◌, [], false, sym, subst}
-use Rattle.split_tree.specs.declared.event.Event.TheVariants.{Publish}
-use Rattle.split_tree.specs.Ending.{reason}
-use Rattle.split_tree.specs.Legal.{IsLegal, IsSettled}
-use Rattle.split_tree.proofs.Legals.{unended}
+use Rattle.case_journal.specs.declared.event.Event.TheVariants.{Publish}
+use Rattle.case_journal.specs.Ending.{reason}
+use Rattle.case_journal.specs.Legal.{IsLegal, IsSettled}
+use Rattle.case_journal.specs.RootLaws.{unended}
 use Rattle.backjump.specs.Cases.{OnlyCloses}
 use Rattle.worker_cases.specs.Working.{IsBetween, IsSound, IsIndex}
 use Rattle.worker_cases.proofs.OrderLemmas.{sound_of}

@@ -1,6 +1,6 @@
 use Rattle.std.proofs.Common.{◌∷◌, [], sym, subst}
-use Rattle.split_tree.specs.declared.event.Event.TheVariants.{Full}
-use Rattle.split_tree.specs.Legal.{IsLegal}
+use Rattle.case_journal.specs.declared.event.Event.TheVariants.{Full}
+use Rattle.case_journal.specs.Legal.{IsLegal}
 use Rattle.worker_cases.proofs.LegalLemmas.{legal_full}
 use Rattle.worker_cases.proofs.EventLemmas.{moved}
 use Rattle.worker_cases.proofs.publishing.end_full.Goals as goal

@@ -1,5 +1,5 @@
 use Rattle.std.proofs.Common.{◌-◌, inr, rules, sym, subst, arith}
-use Rattle.split_tree.specs.Journal.{ledger, steps}
+use Rattle.case_journal.specs.Journal.{ledger, steps}
 use Rattle.case_queue.specs.Queues.{HasFirst}
 use Rattle.worker_cases.specs.Filing.{IsAdded}
 use Rattle.worker_cases.specs.Working.{listing, pending}

@@ -1,7 +1,7 @@
 use Rattle.std.proofs.Common.{◌≡◌, ◌∙◌, ◌∷◌, [], false, sym, ap, subst}
-use Rattle.split_tree.specs.declared.event.Event.TheVariants.{Publish}
-use Rattle.split_tree.specs.Paths.{owner}
-use Rattle.split_tree.specs.Legal.{IsLegal}
+use Rattle.case_journal.specs.declared.event.Event.TheVariants.{Publish}
+use Rattle.case_journal.specs.Paths.{owner}
+use Rattle.case_journal.specs.Legal.{IsLegal}
 use Rattle.worker_cases.proofs.OrderLemmas.{sound_of}
 use Rattle.worker_cases.proofs.TreeLemmas.{published}
 use Rattle.worker_cases.proofs.LegalLemmas.{legal_publish}

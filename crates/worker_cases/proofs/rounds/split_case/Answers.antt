@@ -1,6 +1,6 @@
 use Rattle.std.proofs.Common.{sym, subst}
 use Rattle.std.specs.Prelude.{MatchBool}
-use Rattle.split_tree.specs.Legal.{IsLegalJournal, IsSettled}
+use Rattle.case_journal.specs.Legal.{IsLegalJournal, IsSettled}
 use Rattle.clause_splitting.specs.Splitting.{IsSplitBy, IsFullBy}
 use Rattle.worker_cases.specs.Working.{IsBetween, IsSound, IsIndex}
 use Rattle.worker_cases.proofs.OrderLemmas.{sound_of}

@@ -1,9 +1,9 @@
 use Rattle.std.proofs.Common.{◌≡◌, ◌≤◌, ◌∙◌, Some, sym, ap, arith}
-use Rattle.split_tree.specs.declared.event.Event.TheVariants.{Spent}
-use Rattle.split_tree.specs.Journal.{rounds}
-use Rattle.split_tree.specs.Picking.{pick_at}
-use Rattle.split_tree.specs.Legal.{IsLegal}
-use Rattle.split_tree.proofs.Homes.{listed_within}
+use Rattle.case_journal.specs.declared.event.Event.TheVariants.{Spent}
+use Rattle.case_journal.specs.Journal.{rounds}
+use Rattle.case_journal.specs.Picking.{pick_at}
+use Rattle.case_journal.specs.Legal.{IsLegal}
+use Rattle.case_journal.specs.ListedLaws.{listed_within}
 use Rattle.case_queue.specs.Queues.{HasQueue}
 use Rattle.worker_cases.specs.Working.{IsWhole, nothing_else}
 use Rattle.worker_cases.proofs.LegalLemmas.{legal_spent}

@@ -1,7 +1,7 @@
 use Rattle.std.proofs.Common.{◌++◌, ◌∷◌, [], sym, subst}
 use Rattle.proof_steps.specs.declared.step.Line.{Line}
-use Rattle.split_tree.specs.Journal.{ledger}
-use Rattle.split_tree.proofs.Homes.{listed_within}
+use Rattle.case_journal.specs.Journal.{ledger}
+use Rattle.case_journal.specs.ListedLaws.{listed_within}
 use Rattle.worker_cases.specs.declared.index.Activation.{Activation}
 use Rattle.worker_cases.specs.Partners.{HasPartners}
 use Rattle.worker_cases.specs.Working.{HasActivations, pending}

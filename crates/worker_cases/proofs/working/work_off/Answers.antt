@@ -1,7 +1,7 @@
 use Rattle.std.proofs.Common.{◌≡◌, ◌∙◌, Some, ap, subst, arith}
 use Rattle.std.specs.List.{slice_get}
-use Rattle.split_tree.specs.declared.event.Event.TheVariants.{Activate}
-use Rattle.split_tree.specs.Legal.{IsLegal}
+use Rattle.case_journal.specs.declared.event.Event.TheVariants.{Activate}
+use Rattle.case_journal.specs.Legal.{IsLegal}
 use Rattle.worker_cases.specs.Working.{IsSound, IsIdle, IsWhole, nothing_else}
 use Rattle.worker_cases.proofs.Lists.{index_is, at_member}
 use Rattle.worker_cases.proofs.OrderLemmas.{sound_of}

@@ -1,5 +1,5 @@
 use Rattle.std.proofs.Common.{sym, ap, length, arith}
-use Rattle.split_tree.specs.Journal.{steps}
+use Rattle.case_journal.specs.Journal.{steps}
 use Rattle.case_queue.proofs.Lightest.{top_within, lightest_is, lightest_none}
 use Rattle.case_queue.proofs.Holding.{first_pops}
 use Rattle.case_queue.proofs.queue.CaseQueue.first_lightest.Goals as goal

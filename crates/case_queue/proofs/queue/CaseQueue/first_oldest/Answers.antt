@@ -1,6 +1,6 @@
 use Rattle.std.proofs.Common.{◌≡◌, ◌∙◌, inl, inr, sym, ap, arith}
 use Rattle.std.proofs.lemmas.Bool.{cases_lt}
-use Rattle.split_tree.specs.Picking.{is_passive}
+use Rattle.case_journal.specs.Picking.{is_passive}
 use Rattle.case_queue.proofs.Oldest.{oldest_is, oldest_none}
 use Rattle.case_queue.proofs.queue.CaseQueue.first_oldest.Goals as goal
 

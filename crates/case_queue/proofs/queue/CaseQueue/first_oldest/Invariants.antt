@@ -1,5 +1,5 @@
 use Rattle.std.proofs.Common.{◌≡◌, ℕ, ◌<◌, ◌≤◌, false}
-use Rattle.split_tree.specs.Picking.{is_passive}
+use Rattle.case_journal.specs.Picking.{is_passive}
 use Rattle.case_queue.specs.Queues.{HasQueue}
 use Rattle.case_queue.proofs.queue.CaseQueue.first_oldest.Given as goal
 

@@ -2,8 +2,8 @@ use Rattle.std.proofs.Common.{◌≡◌, ◌∙◌, ℕ, ◌∷◌, ◌-◌, inl
 use Rattle.std.specs.declared.cmp.Reverse.{Reverse}
 use Rattle.std.proofs.lemmas.List.Sorted.{IsPermutation-map}
 use Rattle.spl_terms.specs.Clauses.{clause_symbols}
-use Rattle.split_tree.specs.Journal.{ledger}
-use Rattle.split_tree.proofs.Lists.{numbered_get}
+use Rattle.case_journal.specs.Journal.{ledger}
+use Rattle.case_journal.specs.ListLaws.{numbered_get}
 use Rattle.case_queue.specs.Queues.{entries}
 use Rattle.case_queue.proofs.queue.CaseQueue.put.Goals as goal
 

@@ -1,20 +1,21 @@
 use Rattle.std.proofs.Common.{◌≡◌, ◌∙◌, ℕ, ap, sym, subst, length, take, drop, replicate, reverse, Option, None, [], ◌++◌, ◌∷◌, ◌+◌, ◌-◌, List, vec_len, arith, length-append}
 use Rattle.std.proofs.lemmas.List.{length-replicate}
-use Rattle.split_tree.specs.declared.event.Entry.{Entry}
-use Rattle.split_tree.specs.declared.event.Event.{Event}
-use Rattle.split_tree.specs.Journal.{nodes, nodes_of, steps, ledger, lines_of}
-use Rattle.split_tree.specs.Paths.{leaves, leaves_by}
-use Rattle.split_tree.specs.Facts.{chosen}
-use Rattle.split_tree.specs.Legal.{IsLegalJournal}
+use Rattle.case_journal.specs.declared.event.Entry.{Entry}
+use Rattle.case_journal.specs.declared.event.Event.{Event}
+use Rattle.case_journal.specs.Journal.{nodes, nodes_of, steps, ledger, lines_of, AreSmall}
+use Rattle.case_journal.specs.Paths.{leaves, leaves_by}
+use Rattle.case_journal.specs.Facts.{chosen}
+use Rattle.case_journal.specs.Legal.{IsLegalJournal}
 use Rattle.split_tree.specs.Fields.{setting_of}
-use Rattle.split_tree.specs.Caches.{past_of, branches_by, homes, homes_by, spots, spots_upto, empties, noted_empties, AreHomes, tally, tally_by, weights, AreSmall, retired, retired_by, pushed, noted, newest_upto}
+use Rattle.split_tree.specs.Caches.{past_of, branches_by, homes, homes_by, spots, spots_upto, empties, noted_empties, AreHomes, tally, tally_by, weights, retired, retired_by, pushed, noted, newest_upto}
 use Rattle.split_tree.proofs.Lists.{rest_slice, length-spots_upto, weights-append, length-weights}
-use Rattle.split_tree.proofs.Places.{HasLines-legal, node_there, steps_more}
-use Rattle.split_tree.proofs.Bounds.{rounds_legal, rounds_bound, splits_legal, splits_bound, counted_legal, counted_bound}
+use Rattle.split_tree.proofs.Places.{HasLines-legal, node_there}
+use Rattle.case_journal.specs.PlaceLaws.{steps_more}
+use Rattle.case_journal.specs.BoundLaws.{rounds_legal, rounds_bound, splits_legal, splits_bound, counted_legal, counted_bound, splits_nodes}
 use Rattle.split_tree.proofs.States.{few_choices, length-states_by}
 use Rattle.split_tree.proofs.Picks.{retired_clause, newest_after, small_lines, retired_cost, retired-push}
 use Rattle.split_tree.proofs.Empties.{new_homes_low, empties_after}
-use Rattle.split_tree.proofs.Past.{past_of-push, length-past_of, branches-push, homes-push, spots-push, states-push, seats-push, length-branches_by, length-homes_by, splits_nodes, nodes_cost, waiting_more}
+use Rattle.split_tree.proofs.Past.{past_of-push, length-past_of, branches-push, homes-push, spots-push, states-push, seats-push, length-branches_by, length-homes_by, nodes_cost, waiting_more}
 use Rattle.split_tree.proofs.Lens.{newest_len, empties_len, retired_len, branches_len, homes_len, states_len, seats_len}
 use Rattle.split_tree.proofs.table.Table.apply.Goals as goal
 

@@ -1,8 +1,8 @@
 use Rattle.std.proofs.Common.{arith}
 use Rattle.std.proofs.lemmas.Option.{slice_get_within}
-use Rattle.split_tree.specs.Paths.{leaves}
-use Rattle.split_tree.proofs.Places.{claimed_within}
-use Rattle.split_tree.proofs.Leaves.{leaf_found}
+use Rattle.case_journal.specs.Paths.{leaves}
+use Rattle.case_journal.specs.PlaceLaws.{claimed_within}
+use Rattle.case_journal.specs.LeafLaws.{leaf_found}
 use Rattle.split_tree.proofs.table.Table.claim_next.Goals as goal
 
 pub returns : goal.returns

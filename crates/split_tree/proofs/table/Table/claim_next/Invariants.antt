@@ -1,7 +1,7 @@
 use Rattle.std.proofs.Common.{◌≡◌, ◌<◌, ℕ, Some}
 use Rattle.std.specs.List.{slice_get}
-use Rattle.split_tree.specs.Paths.{leaves}
-use Rattle.split_tree.specs.Legal.{IsClaimable}
+use Rattle.case_journal.specs.Paths.{leaves}
+use Rattle.case_journal.specs.Legal.{IsClaimable}
 use Rattle.split_tree.proofs.table.Table.claim_next.Given as goal
 
 abbrev pub invariant-loop-place : goal.invariant-loop-place

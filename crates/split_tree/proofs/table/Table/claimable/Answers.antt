@@ -1,9 +1,9 @@
 use Rattle.std.specs.Prelude.{MatchBool}
 use Rattle.std.proofs.Common.{◌≡◌, ◌≤◌, ◌∙◌, ℕ, Bool, true, false, Some, sym}
-use Rattle.split_tree.specs.Paths.{is_leaf}
-use Rattle.split_tree.specs.Facts.{claimed, IsLive}
-use Rattle.split_tree.specs.Legal.{IsClaimable}
-use Rattle.split_tree.proofs.Leaves.{claimer_within}
+use Rattle.case_journal.specs.Paths.{is_leaf}
+use Rattle.case_journal.specs.Facts.{claimed, IsLive}
+use Rattle.case_journal.specs.Legal.{IsClaimable}
+use Rattle.case_journal.specs.LeafLaws.{claimer_within}
 use Rattle.split_tree.proofs.table.Table.claimable.Goals as goal
 
 matched : (b : Bool) (P Q R S : Type 0) → MatchBool b P Q → (P → R) → (Q → S) → MatchBool b R S

@@ -1,6 +1,6 @@
 use Rattle.std.specs.Prelude.{if◌then◌else◌}
 use Rattle.std.proofs.Common.{arith, ap, not, ◌&&◌, sym, ◌∙◌, ℕ}
-use Rattle.split_tree.specs.Facts.{is_stop}
+use Rattle.case_journal.specs.Facts.{is_stop}
 use Rattle.split_tree.proofs.Lens.{seats_len, read_seat}
 use Rattle.split_tree.proofs.table.Table.cost.Goals as goal
 

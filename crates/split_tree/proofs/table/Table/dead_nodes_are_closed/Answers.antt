@@ -1,4 +1,4 @@
-use Rattle.split_tree.proofs.Closed.{dead_closed}
+use Rattle.case_journal.specs.ClosedLaws.{dead_closed}
 use Rattle.split_tree.proofs.table.Table.dead_nodes_are_closed.Goals as goal
 
 pub returns : goal.returns

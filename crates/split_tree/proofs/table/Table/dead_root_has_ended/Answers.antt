@@ -1,4 +1,4 @@
-use Rattle.split_tree.proofs.Ended.{no_leaf_ends}
+use Rattle.case_journal.specs.EndedLaws.{no_leaf_ends}
 use Rattle.split_tree.proofs.table.Table.dead_root_has_ended.Goals as goal
 
 pub returns : goal.returns

@@ -1,8 +1,8 @@
 use Rattle.std.proofs.Common.{◌∙◌, inl, sym, subst}
 use Rattle.std.specs.Prelude.{MatchOption}
-use Rattle.split_tree.specs.Facts.{IsLive}
-use Rattle.split_tree.specs.Legal.{IsFirstEmpty}
-use Rattle.split_tree.proofs.Standing.{parent_below}
+use Rattle.case_journal.specs.Facts.{IsLive}
+use Rattle.case_journal.specs.Legal.{IsFirstEmpty}
+use Rattle.case_journal.specs.StandingLaws.{parent_below}
 use Rattle.split_tree.proofs.Empties.{IsFirstBelow, first_parent, first_root}
 use Rattle.split_tree.proofs.table.Table.first_empty.Goals as goal
 

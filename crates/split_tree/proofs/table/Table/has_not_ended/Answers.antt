@@ -1,4 +1,4 @@
-use Rattle.split_tree.proofs.Legals.{unended}
+use Rattle.case_journal.specs.RootLaws.{unended}
 use Rattle.split_tree.proofs.table.Table.has_not_ended.Goals as goal
 
 pub returns : goal.returns

@@ -1,5 +1,5 @@
 use Rattle.std.proofs.Common.{sym}
-use Rattle.split_tree.proofs.Places.{claimed_within}
+use Rattle.case_journal.specs.PlaceLaws.{claimed_within}
 use Rattle.split_tree.proofs.table.Table.held.Goals as goal
 
 pub leaf-requires : goal.leaf-requires

@@ -1,7 +1,7 @@
 use Rattle.std.proofs.Common.{Option, Some, None, ℕ, ◌<◌, arith}
 use Rattle.std.specs.Prelude.{IfSome}
 use Rattle.split_tree.specs.Caches.{past_of, IsHome}
-use Rattle.split_tree.proofs.Climb.{nodes_some}
+use Rattle.case_journal.specs.PathLaws.{nodes_some}
 use Rattle.split_tree.proofs.Lens.{homes_len, read_home}
 use Rattle.split_tree.proofs.table.Table.home.Goals as goal
 

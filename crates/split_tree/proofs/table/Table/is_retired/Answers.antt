@@ -3,7 +3,7 @@ use Rattle.std.specs.List.{slice_get}
 use Rattle.std.proofs.lemmas.Option.{slice_get_read, slice_get_within}
 use Rattle.split_tree.specs.declared.caches.Retired.{Retired}
 use Rattle.split_tree.specs.declared.table.Table.TheInside.{Inside}
-use Rattle.split_tree.specs.Paths.{on_path}
+use Rattle.case_journal.specs.Paths.{on_path}
 use Rattle.split_tree.specs.Fields.{setting_of, IsTable}
 use Rattle.split_tree.specs.Caches.{past_of, retired}
 use Rattle.split_tree.proofs.Lens.{newest_len, read_newest}

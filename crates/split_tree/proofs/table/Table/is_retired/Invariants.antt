@@ -1,4 +1,4 @@
-use Rattle.split_tree.specs.Paths.{on_path}
+use Rattle.case_journal.specs.Paths.{on_path}
 use Rattle.split_tree.specs.Caches.{past_of, retired}
 use Rattle.split_tree.proofs.Retired.{AreLeft, places_left}
 use Rattle.split_tree.proofs.table.Table.is_retired.Given as goal

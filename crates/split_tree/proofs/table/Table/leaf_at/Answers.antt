@@ -2,7 +2,7 @@ use Rattle.std.proofs.Common.{◌∙◌, ap, sym, length, refl, arith}
 use Rattle.std.specs.List.{slice_get}
 use Rattle.std.proofs.lemmas.Option.{slice_get_read}
 use Rattle.split_tree.specs.Caches.{past_of}
-use Rattle.split_tree.proofs.Leaves.{leaf_within}
+use Rattle.case_journal.specs.LeafLaws.{leaf_within}
 use Rattle.split_tree.proofs.table.Table.leaf_at.Goals as goal
 
 pub returns-clause-there : goal.returns-clause-there

@@ -1,6 +1,6 @@
 use Rattle.split_tree.specs.Fields.{setting_of}
 use Rattle.split_tree.specs.Caches.{past_of}
-use Rattle.split_tree.proofs.Ledger.{ledger_concluded}
+use Rattle.case_journal.specs.LedgerLaws.{ledger_concluded}
 use Rattle.split_tree.proofs.table.Table.ledger_is_concluded.Goals as goal
 
 pub returns : goal.returns

@@ -1,10 +1,10 @@
 use Rattle.std.proofs.Common.{◌≡◌, ◌-◌, ◌+◌, ◌∙◌, ap, sym, length, refl, arith, ◌<◌, vec_len}
 use Rattle.std.specs.List.{slice_get}
 use Rattle.std.proofs.lemmas.Option.{slice_get_read}
-use Rattle.split_tree.specs.Journal.{ledger, lines_of}
+use Rattle.case_journal.specs.Journal.{ledger, lines_of}
 use Rattle.split_tree.specs.Fields.{setting_of}
 use Rattle.split_tree.specs.Caches.{past_of}
-use Rattle.split_tree.proofs.Lists.{numbered_get, length-input_lines}
+use Rattle.case_journal.specs.ListLaws.{numbered_get, length-input_lines}
 use Rattle.split_tree.proofs.Homes.{length-spots, opening_at}
 use Rattle.split_tree.proofs.Lens.{read_spot, read_entry, spot_within}
 use Rattle.split_tree.proofs.table.Table.line.Goals as goal

@@ -1,5 +1,5 @@
 use Rattle.std.proofs.Common.{◌∙◌, ap, sym}
-use Rattle.split_tree.specs.Paths.{on_path}
+use Rattle.case_journal.specs.Paths.{on_path}
 use Rattle.split_tree.specs.Caches.{at_home}
 use Rattle.split_tree.proofs.table.Table.listed.Goals as goal
 

@@ -1,14 +1,13 @@
 use Rattle.std.proofs.Common.{◌≡◌, ◌||◌, ◌∙◌, ℕ, Some, None, false, ap, sym, eqb, inl, inr, arith, ◌<◌}
 use Rattle.std.proofs.lemmas.Bool.{ne_eqb, cases_lt}
-use Rattle.split_tree.specs.declared.branch.Branch.{Branch}
-use Rattle.split_tree.specs.Journal.{nodes}
-use Rattle.split_tree.specs.Paths.{on_path, branch}
-use Rattle.split_tree.specs.Fields.{setting_of}
+use Rattle.case_journal.specs.declared.branch.Branch.{Branch}
+use Rattle.case_journal.specs.Journal.{nodes}
+use Rattle.case_journal.specs.Paths.{on_path, branch}
+use Rattle.split_tree.specs.Fields.{setting_of, IsTable}
 use Rattle.split_tree.specs.Caches.{past_of}
 use Rattle.split_tree.specs.declared.table.Table.TheInside.{Inside}
-use Rattle.split_tree.specs.Fields.{IsTable}
-use Rattle.split_tree.proofs.Climb.{on_path-self, on_path_root}
-use Rattle.split_tree.proofs.Branches.{branch_root, climbs}
+use Rattle.case_journal.specs.PathLaws.{on_path-self, on_path_root}
+use Rattle.case_journal.specs.BranchLaws.{branch_root, climbs}
 use Rattle.split_tree.proofs.Lens.{branches_len, read_branch}
 use Rattle.split_tree.proofs.table.Table.on_path.Goals as goal
 

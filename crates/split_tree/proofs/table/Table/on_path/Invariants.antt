@@ -1,6 +1,6 @@
 use Rattle.std.proofs.Common.{◌≡◌, ◌<◌}
-use Rattle.split_tree.specs.Journal.{nodes}
-use Rattle.split_tree.specs.Paths.{on_path}
+use Rattle.case_journal.specs.Journal.{nodes}
+use Rattle.case_journal.specs.Paths.{on_path}
 use Rattle.split_tree.specs.Caches.{past_of}
 use Rattle.split_tree.proofs.table.Table.on_path.Given as goal
 

@@ -1,12 +1,12 @@
 use Rattle.std.proofs.Common.{◌≡◌, ◌<◌, ◌∙◌, ℕ, zero, suc, List, Some, None, refl, ap, sym, arith}
 use Rattle.std.proofs.lemmas.Bool.{cond-true, cond-false}
 use Rattle.dep_sets.specs.Assumptions.{contains_assumption}
-use Rattle.split_tree.specs.declared.event.Entry.{Entry}
-use Rattle.split_tree.specs.Journal.{Setting, nodes}
-use Rattle.split_tree.specs.Paths.{branch, owner}
-use Rattle.split_tree.specs.Legal.{IsLegalJournal}
-use Rattle.split_tree.proofs.Branches.{climbs}
-use Rattle.split_tree.proofs.Standing.{owner_root, owner_climbs, parent_below}
+use Rattle.case_journal.specs.declared.event.Entry.{Entry}
+use Rattle.case_journal.specs.Journal.{Setting, nodes}
+use Rattle.case_journal.specs.Paths.{branch, owner}
+use Rattle.case_journal.specs.Legal.{IsLegalJournal}
+use Rattle.case_journal.specs.BranchLaws.{climbs}
+use Rattle.case_journal.specs.StandingLaws.{owner_root, owner_climbs, parent_below}
 use Rattle.split_tree.proofs.table.Table.owner.Goals as goal
 
 hangs_none : (s : Setting) (past : List Entry) → IsLegalJournal s past → (m : ℕ) → m < nodes past → branch past m ≡ None → m ≡ 0

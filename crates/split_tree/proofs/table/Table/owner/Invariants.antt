@@ -1,6 +1,6 @@
 use Rattle.std.proofs.Common.{◌≡◌, ◌<◌}
-use Rattle.split_tree.specs.Journal.{nodes}
-use Rattle.split_tree.specs.Paths.{owner}
+use Rattle.case_journal.specs.Journal.{nodes}
+use Rattle.case_journal.specs.Paths.{owner}
 use Rattle.split_tree.proofs.table.Table.owner.Given as goal
 
 abbrev pub invariant-loop-at : goal.invariant-loop-at

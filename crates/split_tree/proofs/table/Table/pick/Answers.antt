@@ -2,9 +2,9 @@ use Rattle.std.specs.Prelude.{fold}
 use Rattle.std.proofs.Common.{◌≡◌, ◌+◌, ◌-◌, ◌<◌, ◌∙◌, ℕ, zero, suc, cond, List, [], ◌∷◌, length, take, Some, None, ap, sym, refl, arith}
 use Rattle.std.specs.List.{slice_get}
 use Rattle.spl_truth.specs.Picking.{better}
-use Rattle.split_tree.specs.Journal.{ledger}
-use Rattle.split_tree.specs.Picking.{passing, is_passive, weighed}
-use Rattle.split_tree.proofs.Lists.{numbered_get}
+use Rattle.case_journal.specs.Journal.{ledger}
+use Rattle.case_journal.specs.Picking.{passing, is_passive, weighed}
+use Rattle.case_journal.specs.ListLaws.{numbered_get}
 use Rattle.split_tree.proofs.Retired.{fold_passing}
 use Rattle.split_tree.proofs.table.Table.pick.Goals as goal
 

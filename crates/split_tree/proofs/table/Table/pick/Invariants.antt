@@ -1,8 +1,8 @@
 use Rattle.std.specs.Prelude.{fold}
 use Rattle.std.proofs.Common.{◌≡◌, take, None}
 use Rattle.spl_truth.specs.Picking.{better}
-use Rattle.split_tree.specs.Journal.{ledger}
-use Rattle.split_tree.specs.Picking.{passing, is_passive}
+use Rattle.case_journal.specs.Journal.{ledger}
+use Rattle.case_journal.specs.Picking.{passing, is_passive}
 use Rattle.split_tree.proofs.table.Table.pick.Given as goal
 
 abbrev pub invariant-loop-k : goal.invariant-loop-k

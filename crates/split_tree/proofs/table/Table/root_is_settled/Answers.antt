@@ -1,4 +1,4 @@
-use Rattle.split_tree.proofs.Legals.{settled_root}
+use Rattle.case_journal.specs.RootLaws.{settled_root}
 use Rattle.split_tree.proofs.table.Table.root_is_settled.Goals as goal
 
 pub returns : goal.returns

@@ -1,6 +1,6 @@
 use Rattle.split_tree.specs.Fields.{setting_of}
 use Rattle.split_tree.specs.Caches.{past_of}
-use Rattle.split_tree.proofs.Ledger.{numbered_covered}
+use Rattle.case_journal.specs.LedgerLaws.{numbered_covered}
 use Rattle.split_tree.proofs.table.Table.rules_are_covered.Goals as goal
 
 pub returns : goal.returns

@@ -1,9 +1,10 @@
 use Rattle.std.proofs.Common.{◌∙◌, ◌∷◌, [], ap, sym, subst, arith, length, Option, None, Some, ℕ, replicate}
 use Rattle.std.proofs.lemmas.List.{length-replicate}
-use Rattle.split_tree.specs.Journal.{input_lines}
-use Rattle.split_tree.specs.Ending.{has_empty}
-use Rattle.split_tree.specs.Caches.{branches, homes, spots, empties, weights, AreSmall, retired, states, AreHomes}
-use Rattle.split_tree.proofs.Lists.{length-input_lines, newest_none}
+use Rattle.case_journal.specs.Journal.{input_lines, AreSmall}
+use Rattle.case_journal.specs.Ending.{has_empty}
+use Rattle.split_tree.specs.Caches.{branches, homes, spots, empties, weights, retired, states, AreHomes}
+use Rattle.case_journal.specs.ListLaws.{length-input_lines}
+use Rattle.split_tree.proofs.Lists.{newest_none}
 use Rattle.split_tree.proofs.Empties.{root_homes}
 use Rattle.split_tree.proofs.Past.{past_of-nil, waiting_start}
 use Rattle.split_tree.proofs.table.Table.start.Goals as goal

@@ -1,5 +1,5 @@
 use Rattle.std.proofs.Common.{◌≡◌, ◌≤◌, ℕ, Some}
-use Rattle.split_tree.specs.Facts.{claimed}
+use Rattle.case_journal.specs.Facts.{claimed}
 use Rattle.split_tree.proofs.table.Table.unclaimed.Given as goal
 
 abbrev pub invariant-loop-k : goal.invariant-loop-k

@@ -1,7 +1,7 @@
 use Rattle.std.proofs.Common.{arith, ap, length}
 use Rattle.split_tree.specs.Fields.{setting_of}
 use Rattle.split_tree.specs.Caches.{past_of}
-use Rattle.split_tree.specs.Journal.{ledger}
+use Rattle.case_journal.specs.Journal.{ledger}
 use Rattle.split_tree.proofs.Lists.{length-weights}
 use Rattle.split_tree.proofs.Lens.{read_weight}
 use Rattle.split_tree.proofs.table.Table.weighed.Goals as goal
