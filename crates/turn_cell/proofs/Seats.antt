@@ -250,12 +250,12 @@ module _ {T E G : Type 0} (told : T → List E) (by : E → ℕ) (set_of : T →
   pub dealt_left : (n m : ℕ) (here : TableId) (c : Cell) (v : View E G) (x : G) → v.keeps ≡ v.number ∷ others v.keeps → seat_seen here v ≡ dealing c x n (m + 1) → seat_seen here (dealt_from v) ≡ dealing c x (n + 1) m
   dealt_left n m here c v x own is =
       let k = dealt_keeps n m here c v x own is in
-      λ i. record { cell = (is i).cell; number = (is i).number; setting = (is i).setting; seen = (is i).seen; joined = others (without_second (k i)); inside = (is i).inside; found = (is i).found }
+      λ i. record { cell = (is i).cell; number = (is i).number; setting = (is i).setting; seen = (is i).seen; joined = others (without_second (k i)); inside = (is i).inside; found = (is i).found; tries = (is i).tries }
 
   pub dealt_right : (n m : ℕ) (here : TableId) (c : Cell) (v : View E G) (x : G) → v.keeps ≡ v.number ∷ others v.keeps → seat_seen here v ≡ dealing c x n (m + 1) → seat_seen here (dealt v) ≡ new_seat c n x
   dealt_right n m here c v x own is =
       let k = dealt_keeps n m here c v x own is in
-      λ i. record { cell = (is i).cell; number = second (k i); setting = (is i).setting; seen = (is i).seen; joined = []; inside = false; found = 0 }
+      λ i. record { cell = (is i).cell; number = second (k i); setting = (is i).setting; seen = (is i).seen; joined = []; inside = false; found = 0; tries = 0 }
 
 abbrev option_or : {A : Type 0} → A → Option A → A
 option_or d None = d

@@ -20,24 +20,24 @@ AllApart [] = Unit {0}
 AllApart (x ∷ xs) = (¬ Among x xs) × AllApart xs
 
 -- a view with no join that is still to be looked at
-abbrev pub plain_view : {E G : Type 0} → ℕ → ℕ → Option G → Bool → List E → List ℕ → ℕ → View E G
-plain_view seats n g inside seen keeps found = record { seats = seats; number = n; setting = g; seen = seen; keeps = keeps; inside = inside; found = found; spent = false; into_seen = []; into_keeps = []; other_seen = []; other_keeps = [] }
+abbrev pub plain_view : {E G : Type 0} → ℕ → ℕ → Option G → Bool → List E → List ℕ → ℕ → ℕ → View E G
+plain_view seats n g inside seen keeps found tries = record { seats = seats; number = n; setting = g; seen = seen; keeps = keeps; inside = inside; found = found; tries = tries; spent = false; into_seen = []; into_keeps = []; other_seen = []; other_keeps = [] }
 
--- The view of the first seat keeps every number
+-- the view of the first seat keeps every number
 abbrev pub first_view : {E G : Type 0} → G → ℕ → View E G
-first_view g seats = plain_view seats 1 (Some g) false [] (count_up 1 seats) 0
+first_view g seats = plain_view seats 1 (Some g) false [] (count_up 1 seats) 0 0
 
 abbrev pub entered : {E G : Type 0} → View E G → List E → View E G
-entered v all = plain_view v.seats v.number v.setting true all v.keeps 0
+entered v all = plain_view v.seats v.number v.setting true all v.keeps 0 (v.tries + 1)
 
 abbrev pub refused : {E G : Type 0} → View E G → ℕ → View E G
-refused v n = plain_view v.seats v.number v.setting v.inside v.seen v.keeps n
+refused v n = plain_view v.seats v.number v.setting v.inside v.seen v.keeps n (v.tries + 1)
 
 abbrev pub grown : {E G : Type 0} → View E G → List E → View E G
-grown v all = plain_view v.seats v.number v.setting v.inside all v.keeps v.found
+grown v all = plain_view v.seats v.number v.setting v.inside all v.keeps v.found v.tries
 
 abbrev pub outside : {E G : Type 0} → View E G → View E G
-outside v = plain_view v.seats v.number v.setting false v.seen v.keeps v.found
+outside v = plain_view v.seats v.number v.setting false v.seen v.keeps v.found v.tries
 
 -- the first number that is kept for a seat that is not made yet, and what is kept without it
 abbrev pub second : List ℕ → ℕ
@@ -52,17 +52,17 @@ without_second (x ∷ y ∷ ys) = x ∷ ys
 
 -- the first seat without the number of the seat that is dealt, and that seat
 abbrev pub dealt_from : {E G : Type 0} → View E G → View E G
-dealt_from v = plain_view v.seats v.number v.setting v.inside v.seen (without_second v.keeps) v.found
+dealt_from v = plain_view v.seats v.number v.setting v.inside v.seen (without_second v.keeps) v.found v.tries
 
 abbrev pub dealt : {E G : Type 0} → View E G → View E G
-dealt v = plain_view v.seats (second v.keeps) v.setting false v.seen (second v.keeps ∷ []) 0
+dealt v = plain_view v.seats (second v.keeps) v.setting false v.seen (second v.keeps ∷ []) 0 0
 
 -- The view of a seat into which another was joined, before it looks
 abbrev pub both : {E G : Type 0} → View E G → View E G → View E G
 both v w = record v { seen = longer v.seen w.seen; keeps = v.keeps ++ w.keeps; into_seen = v.seen; into_keeps = v.keeps; other_seen = w.seen; other_keeps = w.keeps }
 
 abbrev pub spent_view : {E G : Type 0} → View E G
-spent_view = record { seats = 0; number = 0; setting = None; seen = []; keeps = []; inside = false; found = 0; spent = true; into_seen = []; into_keeps = []; other_seen = []; other_keeps = [] }
+spent_view = record { seats = 0; number = 0; setting = None; seen = []; keeps = []; inside = false; found = 0; tries = 0; spent = true; into_seen = []; into_keeps = []; other_seen = []; other_keeps = [] }
 
 -- What the rule says of the view v of the seat id, where the view in the turn is the one at `at`, of the number `turn`, the list is `all`, and the number n is kept by the view at `owner n`
 pub record Fits {E G : Type 0} (by : E → ℕ) (seats turn at : ℕ) (all : List E) (g : G) (owner : ℕ → ℕ) (id : ℕ) (v : View E G) : Type 0 where
@@ -111,7 +111,7 @@ Finds told by setting v x = (v.inside ≡ false) × (v.setting ≡ Some (setting
 abbrev pub FindsTaken : {E G : Type 0} → View E G → ℕ → Type 0
 FindsTaken v n = (n ≤ v.seats) × (v.inside ≡ true → n ≡ v.number) × (v.inside ≡ false → ¬ Among n v.keeps)
 
--- A try for the turn: compare and exchange of word 0, from 0 to the seat's number. At 0 the seat takes the slot, and else nothing but the number found is told
+-- A try for the turn: compare and exchange of word 0, from 0 to the seat's number. At 0 the seat takes the slot, and else nothing but the number found is told. Either way it has tried once more; no other step raises that count
 abbrev pub Enters : {T E G : Type 0} → (T → List E) → (E → ℕ) → (T → G) → Step (Option T) → Sat T E G → ℕ → Sat T E G → Type 0
 Enters {T} told by setting st m n w =
     (n ≡ 0 → (x : T) × (w ≡ (entered m.0 (told x), (0, Some x) ∷ m.1)) × Finds told by setting m.0 x)
@@ -138,7 +138,7 @@ cell_of table seats = record { table = table; seats = seats }
 
 -- how a seat with this view is seen
 abbrev pub seat_seen : {E G : Type 0} → TableId → View E G → SeatSeen E G
-seat_seen table v = record { cell = cell_of table v.seats; number = v.number; setting = v.setting; seen = v.seen; joined = others v.keeps; inside = v.inside; found = v.found }
+seat_seen table v = record { cell = cell_of table v.seats; number = v.number; setting = v.setting; seen = v.seen; joined = others v.keeps; inside = v.inside; found = v.found; tries = v.tries }
 
 -- a seat outside holds no slot, and one inside holds the empty slot
 abbrev pub Sits : {T E G : Type 0} → ℕ → Sat T E G → Type 0
@@ -146,7 +146,7 @@ Sits number m = (m.0.number ≡ number) × (m.0.spent ≡ false) × (m.0.inside 
 
 -- the first seat, while m numbers from n on have no seat yet
 abbrev pub dealing : {E G : Type 0} → Cell → G → ℕ → ℕ → SeatSeen E G
-dealing cell g n m = record { cell = cell; number = 1; setting = Some g; seen = []; joined = count_up n m; inside = false; found = 0 }
+dealing cell g n m = record { cell = cell; number = 1; setting = Some g; seen = []; joined = count_up n m; inside = false; found = 0; tries = 0 }
 
 -- the seat at k of the row, when n seats are made and m are not
 abbrev pub Row : {E G : Type 0} → Cell → G → ℕ → ℕ → ℕ → SeatSeen E G → Type 0

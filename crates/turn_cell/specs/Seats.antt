@@ -1,5 +1,5 @@
 -- How a cell, its seats and their turns are seen by callers.
-use Rattle.std.specs.Prelude.{◌≡◌, ℕ, ◌<◌, ◌≤◌, List, [], ◌∷◌, ◌++◌, Option, Some, Bool, true, false}
+use Rattle.std.specs.Prelude.{◌≡◌, ℕ, ◌+◌, ◌<◌, ◌≤◌, List, [], ◌∷◌, ◌++◌, Option, Some, Bool, true, false}
 use Rattle.atomic_table.specs.Seated.{TableId}
 use Rattle.turn_cell.specs.Lists.{Among, longer}
 
@@ -8,7 +8,7 @@ pub record Cell : Type 0 where
   pub table : TableId
   pub seats : ℕ
 
--- A seat: its cell, its number, the setting of the cell's value, the list that it has seen, the numbers joined into it, whether it is in a turn, and the turn word that its last try found: 0, or the number of the seat in the turn
+-- A seat: its cell, its number, the setting of the cell's value, the list that it has seen, the numbers joined into it, whether it is in a turn, the turn word that its last try found, which is 0 or the number of the seat in the turn, and how many times it tried
 pub record SeatSeen (E G : Type 0) : Type 0 where
   pub cell : Cell
   pub number : ℕ
@@ -17,6 +17,7 @@ pub record SeatSeen (E G : Type 0) : Type 0 where
   pub joined : List ℕ
   pub inside : Bool
   pub found : ℕ
+  pub tries : ℕ
 
 -- A turn: the value, the cell, the number of the seat that has the turn, and the value's list when it began
 pub record TurnSeen (T E : Type 0) : Type 0 where
@@ -31,11 +32,19 @@ had s = s.number ∷ s.joined
 
 -- a seat that was just made
 abbrev pub new_seat : {E G : Type 0} → Cell → ℕ → G → SeatSeen E G
-new_seat cell n g = record { cell = cell; number = n; setting = Some g; seen = []; joined = []; inside = false; found = 0 }
+new_seat cell n g = record { cell = cell; number = n; setting = Some g; seen = []; joined = []; inside = false; found = 0; tries = 0 }
 
--- the seat, once it is in a turn in which the value has this list
+-- the seat, once one more try has found this turn word, and has changed nothing else
+abbrev pub tried : {E G : Type 0} → SeatSeen E G → ℕ → SeatSeen E G
+tried s n = record s { found = n; tries = s.tries + 1 }
+
+-- the seat, once one more try has taken the turn, in which the value has this list
 abbrev pub in_turn : {E G : Type 0} → SeatSeen E G → List E → SeatSeen E G
-in_turn s all = record s { seen = all; inside = true; found = 0 }
+in_turn s all = record s { seen = all; inside = true; found = 0; tries = s.tries + 1 }
+
+-- the seat after some tries that were refused
+abbrev pub HasTried : {E G : Type 0} → SeatSeen E G → SeatSeen E G → Type 0
+HasTried old new = (new ≡ record old { found = new.found; tries = new.tries }) × (old.tries ≤ new.tries)
 
 -- the seat, once it has left its turn with this list
 abbrev pub after_turn : {E G : Type 0} → SeatSeen E G → List E → SeatSeen E G

@@ -1,7 +1,7 @@
 //! The cell.
 ghost use Rattle.std.specs.Prelude.{◌≡◌, ℕ, ◌+◌, ◌-◌, ◌<◌, ◌≤◌, vec_capacity, true, false, MatchOption, IfSome, IfNone, Some, [], ◌∷◌, IfOk, IfErr, vec_len, slice_get, length};
 ghost use Rattle.turn_cell.specs.Lists.{Appends, Continues, HasAllSeats, IsOfSeats};
-ghost use Rattle.turn_cell.specs.Seats.{had, new_seat, in_turn, after_turn, joined_with, turn_of, HoldsTurn};
+ghost use Rattle.turn_cell.specs.Seats.{had, new_seat, tried, in_turn, after_turn, joined_with, turn_of, HoldsTurn};
 ghost use Rattle.turn_cell.specs.Rule.{grown, cell_of, Row, dealing};
 
 use crate::rule::{About, Both, ByTurns, Deal, Enter, Leave, Listed, Look, Store};
@@ -135,11 +135,11 @@ impl<T: Told> TurnCell<T> {
         }
     }
 
-    /// One try for the turn, in one step on the turn word. None exactly where the word, as this step found it, wasn't 0. It takes no memory.
+    /// One try for the turn, in one step on the turn word. None exactly where the word, as this step found it, wasn't 0. The seat's count of tries is raised by this step, and by one, whatever the answer. It takes no memory.
     pub fn try_enter(&self, seat: &mut Seat<T>) -> Option<Turn<T>>
         requires cell { seat.old.cell ≡ self.now }
         ensures exactly { MatchOption result (0 < seat.new.found) (λ _. seat.new.found ≡ 0) }
-        ensures refused { IfNone result (seat.new ≡ record seat.old { found = seat.new.found }) }
+        ensures refused { IfNone result (seat.new ≡ tried seat.old seat.new.found) }
         ensures holder { IfNone result (HoldsTurn seat.old seat.new.found) }
         ensures outside { IfSome result (λ _. seat.old.inside ≡ false) }
         ensures seat { IfSome result (λ t. seat.new ≡ in_turn seat.old (T.told t.value)) }
@@ -164,7 +164,8 @@ impl<T: Told> TurnCell<T> {
     pub fn enter<R: Wait>(&self, rt: &R, seat: &mut Seat<T>) -> Turn<T>
         requires cell { seat.old.cell ≡ self.now }
         ensures outside { seat.old.inside ≡ false }
-        ensures seat { seat.new ≡ in_turn seat.old (T.told result.value) }
+        ensures seat { seat.new ≡ record (in_turn seat.old (T.told result.value)) { tries = seat.new.tries } }
+        ensures tries { seat.old.tries < seat.new.tries }
         ensures turn { result ≡ turn_of seat.old result.value (T.told result.value) }
         ensures setting { seat.old.setting ≡ Some (T.setting result.value) }
         ensures list { Continues T.seat_of (had seat.old) seat.old.seen (T.told result.value) }

@@ -1,4 +1,4 @@
-// The rule of the table, and the names of its steps.
+//! The rule of the table, and the names of its steps.
 ghost use Rattle.std.specs.Prelude.{List, []};
 ghost use Rattle.turn_cell.specs.Rule.{Stores, Holds, first_view, Enters, Leaves, Looks, dealt_from, dealt, both, spent_view};
 

@@ -6,7 +6,7 @@ use crate::view::View;
 use atomic_table::Seat as Token;
 use std::marker::Model;
 
-/// A place at a cell, which one thread has at a time. Contracts see it as a `SeatSeen`: its cell, its number, the setting of the cell's value, the list that it has seen, the numbers joined into it, whether it is in a turn, and the turn word that its last try found.
+/// A place at a cell, which one thread has at a time. Contracts see it as a `SeatSeen`: its cell, its number, the setting of the cell's value, the list that it has seen, the numbers joined into it, whether it is in a turn, the turn word that its last try found, and how many times it tried.
 #[derive(Drop)]
 pub struct Seat<T: Told> {
     pub(crate) number: u64,

@@ -1,4 +1,4 @@
-// What a seat knows of the cell.
+//! What a seat knows of the cell.
 use std::collections::LinkedList;
 
 /// What a seat knows of the cell, in proofs alone. No value of it is made.
@@ -14,6 +14,8 @@ pub struct View<E, G> {
     pub inside: bool,
     /// The turn word, as its last try found it.
     pub found: u64,
+    /// How many times it tried for the turn. No bound is set, since no value is made.
+    pub tries: u64,
     /// Whether the seat was joined into another.
     pub spent: bool,
     // What the two seats of a join had, until the seat looks.

@@ -9,9 +9,9 @@ use Rattle.turn_tally.specs.Tallies.{seat_of, numbered}
 abbrev pub TallySeat : Type 0
 TallySeat = SeatSeen Entry ℕ
 
--- the seat after turns of its own, in none now
+-- the seat after turns of its own, for which it tried as often as it did, in none now
 abbrev pub HasWorked : TallySeat → TallySeat → Type 0
-HasWorked old new = (new ≡ record old { seen = new.seen; found = new.found }) × BeginsWith new.seen old.seen
+HasWorked old new = (new ≡ record old { seen = new.seen; found = new.found; tries = new.tries }) × BeginsWith new.seen old.seen
 
 -- of each of its numbers the seat has seen the entries 1 to n, in order, and no others
 abbrev pub HasNumbered : ℕ → TallySeat → Type 0
