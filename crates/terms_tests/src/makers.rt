@@ -1,6 +1,6 @@
 //! Terms, atoms and clauses out of short texts, which the tests of this crate share.
 //!
-//! A text is in prefix notation: f and T take two arguments, g, h, p, s and P, Q, R, S take one, a to e take none, `=` is an
+//! A text is in prefix notation: f and T take two arguments, g, h, p, s and K, P, Q, S take one, a to e take none, `=` is an
 //! equation, the digits are the variables 0 to 9, and w, x, y, z those with the numbers 9000, 64, 70 and 9001. Capital
 //! letters are predicates, but S is a sort. A letter's number is its place in the alphabet.
 use spl_terms::{Atom, Clause, Items, Kind, Symbol, Term};
@@ -10,7 +10,7 @@ use std::alloc::{AllocError, Global};
 fn arity(letter: u8) -> usize {
     match letter {
         b'f' | b'T' | b'=' => 2,
-        b'g' | b'h' | b'p' | b's' | b'P' | b'Q' | b'R' | b'S' => 1,
+        b'g' | b'h' | b'p' | b's' | b'K' | b'P' | b'Q' | b'S' => 1,
         _ => 0,
     }
 }

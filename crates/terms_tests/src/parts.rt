@@ -37,16 +37,16 @@ fn clauses_are_parted(rt: HostRuntime) -> Result<(), Fail> {
             (b"", b"", b"PaQb"),
             Some(((b"", b"", b"Pa"), (b"", b"", b"Qb"), true)),
         ),
-        ((b"", b"Ra", b"Pb"), None),
+        ((b"", b"Ka", b"Pb"), None),
         (
-            (b"S0", b"R1", b"P0Q1"),
-            Some(((b"S0", b"", b"P0"), (b"", b"R0", b"Q0"), false)),
+            (b"S0", b"K1", b"P0Q1"),
+            Some(((b"S0", b"", b"P0"), (b"", b"K0", b"Q0"), false)),
         ),
         ((b"", b"T01", b"P0Q1"), None),
         // a later component comes first
         (
-            (b"", b"R0", b"P1Q2R1"),
-            Some(((b"", b"", b"P0R0"), (b"", b"R0", b"Q1"), false)),
+            (b"", b"K0", b"P1Q2K1"),
+            Some(((b"", b"", b"P0K0"), (b"", b"K0", b"Q1"), false)),
         ),
     ];
     for (written, wanted) in rows {
@@ -71,10 +71,10 @@ fn is_just(
 fn sides_stand_as_they_were(rt: HostRuntime) -> Result<(), Fail> {
     let alloc = rt.alloc();
     let rows: [(u32, Written, Option<Written>); 5] = [
-        (1, (b"", b"R1", b"P2Q1"), Some((b"", b"R1", b"Q1"))),
-        (2, (b"", b"R1", b"P2Q1"), Some((b"", b"", b"P2"))),
-        (0, (b"", b"R1", b"P2Q1"), None),
-        (3, (b"", b"R1", b"P2Q1"), None),
+        (1, (b"", b"K1", b"P2Q1"), Some((b"", b"K1", b"Q1"))),
+        (2, (b"", b"K1", b"P2Q1"), Some((b"", b"", b"P2"))),
+        (0, (b"", b"K1", b"P2Q1"), None),
+        (3, (b"", b"K1", b"P2Q1"), None),
         (1, (b"", b"", b"P2Q2"), None),
     ];
     for (side, written, wanted) in rows {
@@ -105,7 +105,7 @@ fn atoms_change_sides(rt: HostRuntime) -> Result<(), Fail> {
 #[test]
 fn variables_are_numbered_in_order(rt: HostRuntime) -> Result<(), Fail> {
     let alloc = rt.alloc();
-    let made = in_order(alloc, clause(alloc, (b"", b"R4", b"P3P3Q4"))?)?;
-    assert!(rt; is_just(alloc, Some(made), Some((b"", b"R0", b"P1Q0")))?);
+    let made = in_order(alloc, clause(alloc, (b"", b"K4", b"P3P3Q4"))?)?;
+    assert!(rt; is_just(alloc, Some(made), Some((b"", b"K0", b"P1Q0")))?);
     Ok(())
 }
