@@ -4,4 +4,3 @@ pub mod Cases
 pub mod Steps
 pub mod Root
 pub mod Follow
-pub mod JournalSamples

@@ -10,7 +10,7 @@ use Rattle.proof_steps.specs.declared.step.Statement.{Statement}
 use Rattle.proof_steps.specs.declared.step.Step.{Step}
 use Rattle.proof_steps.specs.declared.step.Line.{Line}
 use Rattle.proof_steps.specs.Parts.{Parted}
-use Rattle.proof_steps.specs.Steps.{numbered, conclude, of_one, assumption_of, states, is_covered_rule}
+use Rattle.proof_steps.specs.Steps.{numbered, conclude, of_one, assumption_of, states}
 use Rattle.proof_steps.specs.Checked.{stated, IsConclusion, AreConclusions}
 use Rattle.case_journal.specs.declared.event.Entry.{Entry}
 use Rattle.case_journal.specs.declared.event.Event.{Event}
@@ -129,43 +129,3 @@ ledger_concluded s (e ∷ past) small legal k l h =
           subst (λ xs. IsConclusion s.input (stated xs) l) (sym (take_past ls more j) ∙ ap (λ n. take n (ls ++ more)) at) now
     ]
 
--- ---- by which rules
-
-abbrev pub AreCovered : List Line → Type 0
-AreCovered lines = (k : ℕ) (l : Line) → slice_get lines k ≡ Some l → is_covered_rule l.step.rule ≡ true
-
-one_covered : (line : Line) → is_covered_rule line.step.rule ≡ true → AreCovered (line ∷ [])
-one_covered line h zero l e = let q : line ≡ l = cc in ap (λ x. is_covered_rule x.step.rule) (sym q) ∙ h
-one_covered line h (suc k) l e = cc
-
-event_covered : (s : Setting) (past : List Entry) (w : ℕ) (ev : Event) → IsAsked s past w ev → AreCovered (lines_of ev)
-event_covered s past w (Publish node chain put_off) p =
-    let line = p.asked.line in
-    let by : is_covered_rule line.step.rule ≡ true = elim p.asked.cause [
-      | inl i ↦ ap (λ t. is_covered_rule t.rule) i.step
-      | inr c ↦ ap (λ t. is_covered_rule t.rule) c.step
-    ] in
-    subst AreCovered (sym p.asked.one) (one_covered line by)
-event_covered s past w (Split node lines put_off) p = λ k l h.
-    let at = sym (slice_get-map (λ x. x.step) lines k ∙ ap (option_map (λ x. x.step)) h) ∙ ap (λ xs. slice_get xs k) p.asked.steps in
-    let a = steps_assume p.asked.clause p.asked.parts k l.step (sym at) in
-    ap (λ t. is_covered_rule t.rule) a.is
-event_covered s past w _ p = λ k l h. cc
-
--- each line of the ledger is by a rule that is covered
-pub ledger_covered : (s : Setting) (past : List Entry) → IsLegalJournal s past → AreCovered (ledger s past)
-ledger_covered s [] legal k l h = ap (λ x. is_covered_rule x.step.rule) (input_line_at 1 s.input k l h).is
-ledger_covered s (e ∷ past) legal k l h =
-    let ls = ledger s past in
-    let more = lines_of e.event in
-    elim (cases_lt k (length ls)) [
-      | inl old ↦ ledger_covered s past legal.1 k l (sym (get_left ls more k old) ∙ h)
-      | inr new ↦
-          let j = k - length ls in
-          let at : length ls + j ≡ k = omega arith in
-          event_covered s past e.by e.event legal.0.asked j l (sym (get_right ls more j) ∙ (ap (slice_get (ls ++ more)) at ∙ h))
-    ]
-
-pub numbered_covered : (s : Setting) (past : List Entry) → IsLegalJournal s past → (n : ℕ) (l : Line) → numbered (ledger s past) n ≡ Some l → is_covered_rule l.step.rule ≡ true
-numbered_covered s past legal zero l h = cc
-numbered_covered s past legal (suc k) l h = ledger_covered s past legal k l h

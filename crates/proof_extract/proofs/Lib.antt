@@ -4,6 +4,3 @@ pub mod Parents
 pub mod MarkLemmas
 pub mod Counts
 pub mod Extracts
-pub mod WithResolution
-pub mod Covered
-pub mod WithSplit

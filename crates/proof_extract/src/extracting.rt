@@ -84,7 +84,6 @@ pub fn extract(alloc: Global, table: &Table, clause: u32) -> Result<Items<Line>,
     ensures count { IfOk result (λ proof. length proof ≤ clause) }
 {
     table.ledger_is_concluded();
-    table.rules_are_covered();
     let marks = ancestors(alloc, table, clause)?;
     let counts = counts(alloc, marks.as_slice())?;
     marked_lines(alloc, table, marks.as_slice(), counts.as_slice())

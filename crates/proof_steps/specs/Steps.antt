@@ -193,28 +193,9 @@ within (Some s) = when (nat_le (clause_symbols s.clause) 4096) s
 
 -- ---- the rules of resolution
 
--- input, resolution and factoring; the others are about equations and splits
-abbrev pub is_resolution_rule : Rule → Bool
-is_resolution_rule (Input number) = true
-is_resolution_rule (Resolve i part j s t) = true
-is_resolution_rule (Factor s) = true
-is_resolution_rule _ = false
-
 -- the step that resolves atom i of the line m with atom j of the line n, both without variables
 abbrev pub ground_resolve : ℕ → Part → ℕ → ℕ → ℕ → Step
 ground_resolve i part j m n = record { rule = Resolve i part j (record { terms = [] }) (record { terms = [] }); parents = m ∷ n ∷ [] }
-
--- assumption and the case rules
-abbrev pub is_split_rule : Rule → Bool
-is_split_rule (Assume side negated) = true
-is_split_rule CaseLeft = true
-is_split_rule CaseRight = true
-is_split_rule CaseBoth = true
-is_split_rule _ = false
-
--- all rules but those about equations
-abbrev pub is_covered_rule : Rule → Bool
-is_covered_rule rule = is_resolution_rule rule || is_split_rule rule
 
 -- ---- answers
 

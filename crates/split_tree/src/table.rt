@@ -6,7 +6,7 @@ ghost use Rattle.std.specs.List.{list_all};
 ghost use Rattle.spl_terms.specs.Clauses.{clause_symbols};
 ghost use Rattle.proof_steps.specs.declared.step.Line.{Line};
 ghost use Rattle.proof_steps.specs.Checked.{AreConclusions};
-ghost use Rattle.proof_steps.specs.Steps.{numbered, is_covered_rule};
+ghost use Rattle.proof_steps.specs.Steps.{numbered};
 ghost use Rattle.case_journal.specs.Journal.{IsSmall, input_line, input_lines, lines_of, ledger, nodes, steps, AreSmall};
 ghost use Rattle.case_journal.specs.Paths.{branch};
 ghost use Rattle.case_journal.specs.Facts.{cost_of, chosen, IsDead, Holds};
@@ -390,13 +390,12 @@ impl Table {
 
     /// What is known of each table by its type: its journal is legal, so that no more was chosen, published and split
     /// than the limits allow; each line of its ledger states what its step concludes from the input and the lines
-    /// before it, in at most 4,096 symbols, by one of the rules that `proof_steps` covers; there are so few nodes and
+    /// before it, in at most 4,096 symbols; there are so few nodes and
     /// steps that their numbers fit; there are 1 to 8 workers; a tree of one node is settled; and where proving has not
     /// ended, no event ends the journal. It does nothing when it runs.
     pub fn laws(&self)
         ensures legal { IsLegalJournal self.now.setting self.now.past }
         ensures concluded { AreConclusions self.now.setting.input (ledger self.now.setting self.now.past) }
-        ensures covered { (n : ℕ) (l : Line) → numbered (ledger self.now.setting self.now.past) n ≡ Some l → is_covered_rule l.step.rule ≡ true }
         ensures few_nodes { nodes self.now.past < 2 ^ 32 }
         ensures few_steps { steps self.now.setting self.now.past + 1 < 2 ^ 32 }
         ensures small { IsSmall self.now.setting.limits }
@@ -412,14 +411,6 @@ impl Table {
     /// most 4,096 symbols. It does nothing when it runs.
     pub fn ledger_is_concluded(&self)
         ensures { AreConclusions self.now.setting.input (ledger self.now.setting self.now.past) }
-    {
-        let _ = &self.journal;
-    }
-
-    /// The law of the rules: each line of the ledger is by one of the rules that `proof_steps` covers. It does nothing
-    /// when it runs.
-    pub fn rules_are_covered(&self)
-        ensures { (n : ℕ) (l : Line) → numbered (ledger self.now.setting self.now.past) n ≡ Some l → is_covered_rule l.step.rule ≡ true }
     {
         let _ = &self.journal;
     }

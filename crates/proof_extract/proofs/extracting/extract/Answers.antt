@@ -5,8 +5,7 @@ use Rattle.case_journal.specs.Journal.{ledger}
 use Rattle.proof_extract.specs.Extracting.{AreSplitsMarked, extracted, IsProofOf}
 use Rattle.proof_extract.specs.Contradictions.{IsContradictory}
 use Rattle.proof_extract.proofs.Parents.{splits_marked}
-use Rattle.proof_extract.proofs.Extracts.{proof_of, proof_each, proof_short, extracted_checked, proof_covered, proof_refutes, if_ok}
-use Rattle.proof_extract.proofs.Covered.{all_covered}
+use Rattle.proof_extract.proofs.Extracts.{proof_of, proof_each, proof_short, extracted_checked, proof_refutes, if_ok}
 use Rattle.proof_extract.proofs.extracting.extract.Goals as goal
 
 pub marked_lines-requires-clause-splits : goal.marked_lines-requires-clause-splits
@@ -38,7 +37,7 @@ returns-clause-refuted c =
     let input = c.args.table.now.setting.input in
     let lines = ledger c.args.table.now.setting c.args.table.now.past in
     if_ok c.marked_lines.result (IsProofOf lines c.args.clause) (λ p. IsContradictory lines c.args.clause → Refuted input)
-    (λ p is contradictory. proof_refutes input lines p c.args.clause c.ledger_is_concluded.ensures is contradictory (proof_covered lines p c.args.clause is (all_covered lines c.rules_are_covered.ensures))) (returns-clause-proof c)
+    (λ p is contradictory. proof_refutes input lines p c.args.clause c.ledger_is_concluded.ensures is contradictory) (returns-clause-proof c)
 
 pub returns-clause-count : goal.returns-clause-count
 returns-clause-count c =

@@ -1,5 +1,5 @@
 use Rattle.std.proofs.Common.{arith}
-use Rattle.case_journal.specs.LedgerLaws.{ledger_concluded, numbered_covered}
+use Rattle.case_journal.specs.LedgerLaws.{ledger_concluded}
 use Rattle.case_journal.specs.RootLaws.{settled_root, unended}
 use Rattle.split_tree.specs.Fields.{setting_of}
 use Rattle.split_tree.specs.Caches.{past_of}
@@ -13,7 +13,6 @@ returns c =
     rw (← c.self.view_is) (record {
       legal = i.legal;
       concluded = ledger_concluded s past i.small_input i.legal;
-      covered = numbered_covered s past i.legal;
       few_nodes = omega (arith, i.few_nodes);
       few_steps = omega (arith, i.few_steps);
       small = i.small;
