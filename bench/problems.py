@@ -7,16 +7,15 @@ HEAD = (
 )
 
 
-def literal(name, positive, argument):
-    """A literal of a predicate of one argument, in DFG syntax and in TPTP syntax."""
-    atom = f"{name}({argument})"
+def literal(atom, positive):
+    """A literal in DFG syntax and in TPTP syntax."""
     return (atom, atom) if positive else (f"not({atom})", f"~{atom}")
 
 
-def problem(functions, predicates, clauses):
-    """The DFG text and the TPTP text of clauses, each a list of (predicate, positive, argument)."""
-    symbols = ",".join(f"({f},0)" for f in functions)
-    relations = ",".join(f"({p},1)" for p in predicates)
+def signed_problem(functions, predicates, clauses):
+    """The DFG text and the TPTP text of clauses, each a list of (atom, positive); symbols are pairs of name and arity."""
+    symbols = ",".join(f"({name},{arity})" for name, arity in functions)
+    relations = ",".join(f"({name},{arity})" for name, arity in predicates)
     dfg = [HEAD, "list_of_symbols.\n", f"functions[{symbols}].\npredicates[{relations}].\n", "end_of_list.\n"]
     dfg.append("list_of_clauses(axioms,cnf).\n")
     tptp = []
@@ -26,6 +25,12 @@ def problem(functions, predicates, clauses):
         tptp.append(f"cnf(c{number},axiom,({' | '.join(t for _, t in literals)})).\n")
     dfg.append("end_of_list.\nend_problem.\n")
     return "".join(dfg), "".join(tptp)
+
+
+def problem(constants, predicates, clauses):
+    """The two texts of clauses over predicates of one argument, each a list of (predicate, positive, argument)."""
+    signed = [[(f"{name}({argument})", positive) for name, positive, argument in clause] for clause in clauses]
+    return signed_problem([(c, 0) for c in constants], [(p, 1) for p in predicates], signed)
 
 
 def chain(links):

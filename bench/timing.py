@@ -19,6 +19,18 @@ def built_program(name="spass"):
 
 def measure(command, text, seconds):
     """What the command prints for the text, and the seconds it took; none where it is cut off."""
+    end = timed(command, text, seconds)
+    return end and (end[0], end[2])
+
+
+def ended(command, text, seconds):
+    """What the command prints for the text, and its status, below 0 for a signal; none where it is cut off."""
+    end = timed(command, text, seconds)
+    return end and (end[0], end[1])
+
+
+def timed(command, text, seconds):
+    """What the command prints for the text, its status, and the seconds it took; none where it is cut off."""
     with tempfile.NamedTemporaryFile("w+", suffix=".txt") as given:
         given.write(text)
         given.flush()
@@ -32,7 +44,7 @@ def measure(command, text, seconds):
             child.communicate()
             return None
         taken = time.monotonic() - begin
-    return out.decode(errors="replace"), taken
+    return out.decode(errors="replace"), child.returncode, taken
 
 
 def peak_megabytes(command, text):

@@ -174,7 +174,8 @@ impl Delivery {
 }
 
 fn write_text<K: Sink>(sink: &mut K, text: &[u8], answer: Answer) -> Delivery
-    ensures delivered { IsDelivered text.now answer result.reported result.failed (K.written sink.old) (K.written sink.new) }
+    ensures delivered { IsDelivered text.now answer result.reported result.failed
+        (K.written sink.old) (K.written sink.new) }
     ensures counted { K.faults sink.new ≡ count_after result.failed (K.faults sink.old) }
 {
     let (reported, failed) = match write_all(sink, text) {
@@ -194,7 +195,8 @@ pub fn deliver<K: Sink>(
     answer: Answer,
 ) -> Delivery
     requires { length proof.now < 2 ^ 32 }
-    ensures written { IsWritten signature.now proof.now answer result.reported result.failed (K.written sink.old) (K.written sink.new) }
+    ensures written { IsWritten signature.now proof.now answer
+        result.reported result.failed (K.written sink.old) (K.written sink.new) }
     ensures counted { K.faults sink.new ≡ count_after result.failed (K.faults sink.old) }
 {
     match text_of(alloc, signature, proof, answer) {

@@ -56,7 +56,8 @@ fn refused(alloc: Global, answer: Answer) -> Begun
 /// The table of the clauses of a problem.
 fn fresh(alloc: Global, problem: &Problem, limits: Limits) -> Result<Table, Answer>
     requires entries { HasLimits problem.now.entries }
-    ensures fresh { MatchResult result (IsFresh limits (clauses problem.now.entries)) (λ answer. answer ≡ Answer.Memory) }
+    ensures fresh { MatchResult result (IsFresh limits (clauses problem.now.entries))
+        (λ answer. answer ≡ Answer.Memory) }
 {
     let Ok(input) = clauses_of(alloc, problem) else {
         return Err(Answer::Memory);
@@ -69,7 +70,8 @@ fn fresh(alloc: Global, problem: &Problem, limits: Limits) -> Result<Table, Answ
 
 fn solve(alloc: Global, problem: Problem, limits: Limits) -> Begun
     requires entries { HasLimits problem.entries }
-    ensures fresh { MatchResult result.start (IsFresh limits (clauses problem.entries)) (λ answer. answer ≡ Answer.Memory) }
+    ensures fresh { MatchResult result.start (IsFresh limits (clauses problem.entries))
+        (λ answer. answer ≡ Answer.Memory) }
     ensures signature { result.signature ≡ problem.signature }
 {
     let start = fresh(alloc, &problem, limits);
@@ -93,7 +95,8 @@ fn read(alloc: Global, bytes: &[u8], limits: Limits) -> Begun
 /// Looks at the words and reads the problem; its table is the last that is made.
 #[tactic(auto, using(crate::proofs::Causes::start_laws))]
 fn begin<S: Source>(alloc: Global, words: &[String], source: &mut S) -> Begun
-    ensures started { IsStarted (call_of S.left S.faults (map string_bytes words.now) source.old source.new) result.signature result.start }
+    ensures started { IsStarted (call_of S.left S.faults (map string_bytes words.now) source.old source.new)
+        result.signature result.start }
     ensures unread { limits_of (map string_bytes words.now) ≡ None → source.new ≡ source.old }
 {
     let Some(limits) = limits_of(words) else {
@@ -124,7 +127,8 @@ fn announce<K: Sink>(alloc: Global, sink: &mut K, signature: &Signature, decided
     requires short { length decided.proof < 2 ^ 32 }
     ensures status { result.status ≡ reported_status result.write_failed result.answer }
     ensures table { result.table ≡ decided.table }
-    ensures written { IsWritten signature.now decided.proof decided.answer result.answer result.write_failed (K.written sink.old) (K.written sink.new) }
+    ensures written { IsWritten signature.now decided.proof decided.answer
+        result.answer result.write_failed (K.written sink.old) (K.written sink.new) }
     ensures counted { K.faults sink.new ≡ count_after result.write_failed (K.faults sink.old) }
 {
     let Decided {
@@ -145,7 +149,8 @@ fn announce<K: Sink>(alloc: Global, sink: &mut K, signature: &Signature, decided
 fn finish<K: Sink>(alloc: Global, sink: &mut K, begun: Begun) -> Report
     requires fresh { IfOk begun.start (λ t. (t.past ≡ []) × (t.setting.workers ≡ 1)) }
     ensures status { result.status ≡ reported_status result.write_failed result.answer }
-    ensures finished { IsFinished begun.start begun.signature result.table result.answer result.write_failed (K.written sink.old) (K.written sink.new) }
+    ensures finished { IsFinished begun.start begun.signature
+        result.table result.answer result.write_failed (K.written sink.old) (K.written sink.new) }
     ensures counted { K.faults sink.new ≡ count_after result.write_failed (K.faults sink.old) }
 {
     let Begun { start, signature } = begun;
@@ -162,7 +167,8 @@ fn respond<S: Source, K: Sink>(
     sink: &mut K,
 ) -> Report
     ensures status { result.status ≡ reported_status result.write_failed result.answer }
-    ensures outcome { IsOutcome (call_of S.left S.faults (map string_bytes words.now) source.old source.new) result.table result.answer result.write_failed (K.written sink.old) (K.written sink.new) }
+    ensures outcome { IsOutcome (call_of S.left S.faults (map string_bytes words.now) source.old source.new)
+        result.table result.answer result.write_failed (K.written sink.old) (K.written sink.new) }
     ensures unread { limits_of (map string_bytes words.now) ≡ None → source.new ≡ source.old }
     ensures write_failed { K.faults sink.new ≡ count_after result.write_failed (K.faults sink.old) }
 {
@@ -173,10 +179,10 @@ fn respond<S: Source, K: Sink>(
 /// Does what the words say: reads a problem from the source, proves it, and writes the answer to the sink.
 ///
 /// The words are `prove`, then `--rounds` with 0 to 1,000,000 (10,000 where it isn't given), `--steps` with 1 to
-/// 1,000,000 (100,000), `--splits` with 0 to 10,000 (1,000) and `--workers` with 1, each at most once. At most 16,777,217
-/// bytes are read; the text of the answer is built whole before the first write. The order of refusals is words, reading
-/// (a fault, then too long), grammar, proving, writing. Want of memory may come at each stage and is the one answer
-/// without a cause; each other one has its cause in a clause here.
+/// 1,000,000 (100,000), `--splits` with 0 to 10,000 (1,000) and `--workers` with 1, each at most once. At most
+/// 16,777,217 bytes are read, and none where the words don't fit; the text of the answer is built whole before the first
+/// write. The order of refusals is words, reading (a fault, then too long), grammar, proving, writing. Want of memory
+/// may come at each stage and is the one answer without a cause; each other one has its cause in a clause here.
 pub fn run_alone<S: Source, K: Sink>(
     alloc: Global,
     words: &[String],
@@ -186,15 +192,18 @@ pub fn run_alone<S: Source, K: Sink>(
     ensures status { result.status ≡ reported_status result.write_failed result.answer }
 
     // The table: where it comes from, and the answer that its journal gives.
-    ensures table { IfSome result.table (λ t. HasTable (map string_bytes words.now) (S.left source.old) (S.left source.new) t) }
+    ensures table { IfSome result.table (λ t.
+        HasTable (map string_bytes words.now) (S.left source.old) (S.left source.new) t) }
     ensures answer { IfSome result.table (λ t. IsUnlessMemory (answer_of t) result.answer) }
 
     // A proof exactly where a contradiction ended proving, and what it shows.
     ensures proof { result.answer ≡ Answer.ProofFound → IsSomeAnd result.table HasProof }
-    ensures proof_always { IfSome result.table (λ t. IsContradicted t → IsUnlessMemory Answer.ProofFound result.answer) }
+    ensures proof_always { IfSome result.table (λ t.
+        IsContradicted t → IsUnlessMemory Answer.ProofFound result.answer) }
 
     // Why proving ended otherwise.
-    ensures completion { (node kept put_off : ℕ) → result.answer ≡ Answer.Completion node kept put_off → IsSomeAnd result.table (IsComplete node kept put_off) }
+    ensures completion { (node kept put_off : ℕ) → result.answer ≡ Answer.Completion node kept put_off
+        → IsSomeAnd result.table (IsComplete node kept put_off) }
     ensures rounds { (count : ℕ) → result.answer ≡ Answer.Rounds count → IsSomeAnd result.table (IsSpent count) }
     ensures steps { (limit : ℕ) → result.answer ≡ Answer.Steps limit → IsSomeAnd result.table (IsFull limit) }
     ensures size { (symbols : ℕ) → result.answer ≡ Answer.Size symbols → IsSomeAnd result.table (IsLarge symbols) }
@@ -206,17 +215,26 @@ pub fn run_alone<S: Source, K: Sink>(
     ensures fault { result.answer ≡ Answer.ReadFault → Rose (S.faults source.old) (S.faults source.new) }
     ensures fault_always { S.faults source.new ≢ S.faults source.old → IsUnlessMemory Answer.ReadFault result.answer }
     ensures too_long { result.answer ≡ Answer.TooLong → CamePast (S.left source.old) (S.left source.new) most_bytes }
-    ensures input { (fault : Fault) → result.answer ≡ Answer.Input fault → IsRefused (S.left source.old) (S.left source.new) fault }
+    ensures input { (fault : Fault) → result.answer ≡ Answer.Input fault
+        → IsRefused (S.left source.old) (S.left source.new) fault }
 
     // Where the source tells its bytes and no read fails.
-    ensures too_long_always { (bytes : List ℕ) → IsTold (call_of S.left S.faults (map string_bytes words.now) source.old source.new) bytes → most_bytes < length bytes → IsUnlessMemory Answer.TooLong result.answer }
-    ensures input_always { (bytes : List ℕ) (fault : Fault) → IsTold (call_of S.left S.faults (map string_bytes words.now) source.old source.new) bytes → length bytes ≤ most_bytes → problem bytes ≡ Err fault → IsUnlessMemory (Answer.Input fault) result.answer }
-    ensures complete { (bytes : List ℕ) (read : Problem) → IsTold (call_of S.left S.faults (map string_bytes words.now) source.old source.new) bytes → length bytes ≤ most_bytes → problem bytes ≡ Ok read → IsOfProving result.answer }
+    ensures too_long_always { (bytes : List ℕ)
+        → IsTold (call_of S.left S.faults (map string_bytes words.now) source.old source.new) bytes
+        → most_bytes < length bytes → IsUnlessMemory Answer.TooLong result.answer }
+    ensures input_always { (bytes : List ℕ) (fault : Fault)
+        → IsTold (call_of S.left S.faults (map string_bytes words.now) source.old source.new) bytes
+        → length bytes ≤ most_bytes → problem bytes ≡ Err fault → IsUnlessMemory (Answer.Input fault) result.answer }
+    ensures complete { (bytes : List ℕ) (read : Problem)
+        → IsTold (call_of S.left S.faults (map string_bytes words.now) source.old source.new) bytes
+        → length bytes ≤ most_bytes → problem bytes ≡ Ok read → IsOfProving result.answer }
 
     // What was written, and the counts of faults.
-    ensures outcome { IsOutcome (call_of S.left S.faults (map string_bytes words.now) source.old source.new) result.table result.answer result.write_failed (K.written sink.old) (K.written sink.new) }
+    ensures outcome { IsOutcome (call_of S.left S.faults (map string_bytes words.now) source.old source.new)
+        result.table result.answer result.write_failed (K.written sink.old) (K.written sink.new) }
     ensures write_failed { K.faults sink.new ≡ count_after result.write_failed (K.faults sink.old) }
-    ensures read_count { (S.faults source.new ≡ S.faults source.old) ⊎ Rose (S.faults source.old) (S.faults source.new) }
+    ensures read_count { (S.faults source.new ≡ S.faults source.old)
+        ⊎ Rose (S.faults source.old) (S.faults source.new) }
 {
     respond(alloc, words, source, sink)
 }
