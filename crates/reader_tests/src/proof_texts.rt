@@ -1,141 +1,115 @@
-//! The text of a proof list.
+//! The text of a proof list, with a line by each kind of rule.
 use dep_sets::{Assumption, Deps};
 use proof_steps::{Line, Rule, Statement, Step};
 use proof_text::{print_proof, push_bytes, push_number};
 use spl_symbols::Signature;
-use spl_terms::{Atom, Clause, Items, Kind, Part, Spot, Symbol, Term};
+use spl_terms::{Clause, Items, Part, Spot, Term};
 use spl_truth::Subst;
 use std::alloc::{AllocError, Global};
 use std::test::Fail;
 
-const A: Symbol = Symbol {
-    number: 0,
-    kind: Kind::Function,
-};
-
-const P: Symbol = Symbol {
-    number: 1,
-    kind: Kind::Predicate,
-};
-
-fn list<T: Drop>(alloc: Global, item: T) -> Result<Items<T>, AllocError> {
-    let mut items = Items::new(alloc);
-    items.push(item)?;
-    Ok(items)
+/// The substitution of these variables.
+fn subst(alloc: Global, variables: &[u32]) -> Result<Subst, AllocError> {
+    let mut terms = Items::new(alloc);
+    for variable in variables {
+        terms.push(Term::Var(*variable))?;
+    }
+    Ok(Subst { terms })
 }
 
-/// `P(a)`.
-fn atom(alloc: Global) -> Result<Atom, AllocError> {
-    Ok(Atom::Holds(P, list(alloc, Term::App(A, Items::new(alloc)))?))
-}
-
-fn line(
-    alloc: Global,
-    rule: Rule,
-    parents: &[u32],
-    antecedent: Items<Atom>,
-    succedent: Items<Atom>,
-    deps: Deps,
-) -> Result<Line, AllocError> {
+/// The empty clause by this rule, under side 2 of the split of clause 7.
+fn line(alloc: Global, rule: Rule, parents: &[u32]) -> Result<Line, AllocError> {
+    let parents = Items::from_slice(alloc, parents)?;
+    let deps = Deps::one(alloc, Assumption { split: 7, side: 2 })?;
     Ok(Line {
-        step: Step {
-            rule,
-            parents: Items::from_slice(alloc, parents)?,
-        },
+        step: Step { rule, parents },
         stated: Statement {
-            clause: Clause {
-                constraint: Items::new(alloc),
-                antecedent,
-                succedent,
-            },
+            clause: Clause::new(alloc),
             deps,
         },
     })
 }
 
-fn no_terms(alloc: Global) -> Subst {
-    Subst {
-        terms: Items::new(alloc),
-    }
-}
-
-fn proof(alloc: Global) -> Result<Vec<Line>, AllocError> {
-    let none = Items::new(alloc);
-    let first = list(alloc, atom(alloc)?)?;
-    let second = list(alloc, atom(alloc)?)?;
-    let mut lines = Vec::new(alloc);
-    lines.push(line(
-        alloc,
-        Rule::Input { no: 1 },
-        &[],
-        none,
-        first,
-        Deps::none(alloc),
-    )?)?;
-    let none = Items::new(alloc);
-    lines.push(line(
-        alloc,
-        Rule::Input { no: 2 },
-        &[],
-        second,
-        none,
-        Deps::none(alloc),
-    )?)?;
-    let rule = Rule::Resolve {
+fn resolve(alloc: Global) -> Result<Rule, AllocError> {
+    Ok(Rule::Resolve {
         i: 0,
-        part: Part::Antecedent,
-        j: 0,
-        s: no_terms(alloc),
-        t: no_terms(alloc),
-    };
-    let (none, others) = (Items::new(alloc), Items::new(alloc));
-    lines.push(line(alloc, rule, &[1, 2], none, others, Deps::none(alloc))?)?;
-    Ok(lines)
+        part: Part::Constraint,
+        j: 1,
+        s: subst(alloc, &[2, 3])?,
+        t: subst(alloc, &[])?,
+    })
 }
 
-/// A step by an equation, with an assumption.
-fn rewriting(alloc: Global) -> Result<Line, AllocError> {
-    let rule = Rule::Paramodulate {
+fn paramodulate(alloc: Global) -> Result<Rule, AllocError> {
+    let path = Items::from_slice(alloc, &[0, 3])?;
+    let part = Part::Succedent;
+    Ok(Rule::Paramodulate {
         i: 2,
         right_to_left: true,
         spot: Spot {
-            part: Part::Succedent,
+            part,
             place: 1,
-            path: Items::from_slice(alloc, &[0, 3])?,
+            path,
         },
-        s: no_terms(alloc),
-        t: Subst {
-            terms: list(alloc, Term::Var(4))?,
-        },
-    };
-    let deps = Deps::one(alloc, Assumption { split: 7, side: 2 })?;
-    let (none, others) = (Items::new(alloc), Items::new(alloc));
-    line(alloc, rule, &[5], none, others, deps)
+        s: subst(alloc, &[])?,
+        t: subst(alloc, &[4])?,
+    })
 }
 
+fn factor_equality(alloc: Global) -> Result<Rule, AllocError> {
+    Ok(Rule::EqFactor {
+        i: 1,
+        i_right: false,
+        j: 2,
+        j_right: true,
+        s: subst(alloc, &[])?,
+    })
+}
+
+fn assume(side: u32, negated: Option<u32>) -> Rule {
+    Rule::Assume { side, negated }
+}
+
+const TEXT: &[u8] = b"017list_of_proof(spl).
+step(1,cl([],[],[]),inp,[],[no:3,dep:[7-2]]).
+step(2,cl([],[],[]),res,[1,2],[i:0,part:con,j:1,s:[?2,?3],t:[],dep:[7-2]]).
+step(3,cl([],[],[]),fac,[2],[s:[?5],dep:[7-2]]).
+step(4,cl([],[],[]),par,[5,6],[i:2,dir:rl,part:suc,j:1,pos:[0,3],s:[],t:[?4],dep:[7-2]]).
+step(5,cl([],[],[]),ref,[3],[j:4,s:[],dep:[7-2]]).
+step(6,cl([],[],[]),eqf,[4],[i:1,idir:lr,j:2,jdir:rl,s:[],dep:[7-2]]).
+step(7,cl([],[],[]),asm,[1],[side:1,neg:no,dep:[7-2]]).
+step(8,cl([],[],[]),asm,[1],[side:2,neg:5,dep:[7-2]]).
+step(9,cl([],[],[]),cab,[1,2,3],[dep:[7-2]]).
+end_of_list.
+";
+
 #[test]
-fn prints_a_proof(rt: HostRuntime) -> Result<(), Fail> {
+fn each_rule_has_its_text(rt: HostRuntime) -> Result<(), Fail> {
     let alloc = rt.alloc();
-    let mut signature = Signature::new(alloc);
-    let a = signature.declare(alloc, "a", 0, Kind::Function);
-    let p = signature.declare(alloc, "P", 1, Kind::Predicate);
-    assert!(rt; a.is_ok() && p.is_ok());
-    let mut lines = proof(alloc)?;
-    lines.push(rewriting(alloc)?)?;
+    let s = subst(alloc, &[5])?;
+    let none = subst(alloc, &[])?;
+    let rows: [(Rule, &[u32]); 9] = [
+        (Rule::Input { no: 3 }, &[]),
+        (resolve(alloc)?, &[1, 2]),
+        (Rule::Factor { s }, &[2]),
+        (paramodulate(alloc)?, &[5, 6]),
+        (Rule::Reflex { j: 4, s: none }, &[3]),
+        (factor_equality(alloc)?, &[4]),
+        (assume(1, None), &[1]),
+        (assume(2, Some(5)), &[1]),
+        (Rule::CaseBoth, &[1, 2, 3]),
+    ];
+    let mut lines = Vec::new(alloc);
+    for (rule, parents) in rows {
+        lines.push(line(alloc, rule, parents)?)?;
+    }
     if lines.len() > 10 {
         return Err(Fail::new("too many lines"));
     }
     let mut out = Vec::new(alloc);
     push_bytes(&mut out, b"0")?;
     push_number(alloc, &mut out, 17)?;
-    let out = print_proof(alloc, out, &signature, lines.as_slice())?;
-    let wanted = b"017list_of_proof(spl).
-step(1,cl([],[],[P(a)]),inp,[],[no:1,dep:[]]).
-step(2,cl([],[P(a)],[]),inp,[],[no:2,dep:[]]).
-step(3,cl([],[],[]),res,[1,2],[i:0,part:ant,j:0,s:[],t:[],dep:[]]).
-step(4,cl([],[],[]),par,[5],[i:2,dir:rl,part:suc,j:1,pos:[0,3],s:[],t:[?4],dep:[7-2]]).
-end_of_list.
-";
-    assert_eq!(rt; out.as_slice(), wanted.as_slice());
+    let out = print_proof(alloc, out, &Signature::new(alloc), lines.as_slice())?;
+    assert_eq!(rt; out.as_slice(), TEXT);
     Ok(())
 }
