@@ -3,7 +3,7 @@ use Rattle.std.specs.List.{slice_get}
 use Rattle.std.specs.Prelude.{slice_index_or}
 use Rattle.std.proofs.lemmas.Option.{slice_get_within, slice_get-get_or}
 use Rattle.case_journal.specs.Journal.{steps}
-use Rattle.case_queue.proofs.Lines.{get_last}
+use Rattle.case_queue.specs.LineLaws.{get_last}
 use Rattle.case_queue.proofs.tests.numbers_of_all.Goals as goal
 
 pub loop-k-init : goal.loop-k-init

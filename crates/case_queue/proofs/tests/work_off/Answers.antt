@@ -5,7 +5,7 @@ use Rattle.case_journal.specs.ListedLaws.{listed_within}
 use Rattle.case_journal.specs.RootLaws.{unended}
 use Rattle.case_journal.specs.PickLaws.{IsClause}
 use Rattle.case_journal.specs.ResolutionLaws.{positive_alone}
-use Rattle.case_queue.proofs.Lines.{numbered_there}
+use Rattle.case_queue.specs.LineLaws.{numbered_there}
 use Rattle.case_queue.proofs.tests.work_off.Goals as goal
 
 pub apply-requires-clause-legal : goal.apply-requires-clause-legal
