@@ -24,7 +24,7 @@ use Rattle.case_journal.specs.BoundLaws.{counted_bound}
 use Rattle.case_journal.specs.BranchLaws.{climbs}
 use Rattle.case_journal.specs.DependenceLaws.{numbered_new}
 use Rattle.backjump.specs.Cases.{case_line, IsOpenOrProved, CanClose}
-use Rattle.backjump.proofs.Deaths.{child_depends, dead_below, owner_on, own_assumption, with_line}
+use Rattle.case_journal.specs.DeathLaws.{child_depends, dead_below, owner_on, own_assumption, with_line}
 
 stated_found : (lines : List Line) (n : ℕ) (l : Line) → numbered lines n ≡ Some l → numbered (stated lines) n ≡ Some l.stated
 stated_found lines zero l h = cc

@@ -28,7 +28,8 @@ use Rattle.case_journal.specs.DependenceLaws.{numbered_new, split_listed}
 use Rattle.backjump.specs.Cases.{case_line, OnlyCloses, IsOpenOrProved, IsSettledAt, CanClose}
 use Rattle.backjump.specs.declared.closing.Next.{Next}
 use Rattle.backjump.specs.Plans.{appended, twin_of, sided_line, IsNext, IsNextEvent, IsOneLine, IsPlan}
-use Rattle.backjump.proofs.Deaths.{with_line, on_path_le, owner_on, dead_below, dead_before, new_empty, empty_before, listed_apart, settled_after}
+use Rattle.case_journal.specs.DeathLaws.{with_line, on_path_le, owner_on, dead_below, dead_before, new_empty, empty_before, listed_apart}
+use Rattle.backjump.proofs.Deaths.{settled_after}
 use Rattle.backjump.proofs.Pairs.{pair_at}
 use Rattle.backjump.proofs.Cases.{closing_legal, open_or_proved, still_open}
 use Rattle.backjump.proofs.Steps.{closes_trans, one_entry}

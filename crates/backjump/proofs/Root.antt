@@ -7,7 +7,7 @@ use Rattle.case_journal.specs.Paths.{stem, on_path}
 use Rattle.case_journal.specs.Facts.{IsLive}
 use Rattle.case_journal.specs.Legal.{IsLegalJournal}
 use Rattle.case_journal.specs.PlaceLaws.{stem_there}
-use Rattle.backjump.proofs.Deaths.{dead_below}
+use Rattle.case_journal.specs.DeathLaws.{dead_below}
 
 pub on_root : (s : Setting) (past : List Entry) → IsLegalJournal s past → (m : ℕ) → m < nodes past → on_path past m 0 ≡ true
 on_root s [] legal m there = eq-eqb 0 m (omega arith)

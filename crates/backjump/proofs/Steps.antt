@@ -22,7 +22,8 @@ use Rattle.case_journal.specs.DependenceLaws.{split_listed}
 use Rattle.case_journal.specs.PathLaws.{nodes_some, on_path-self}
 use Rattle.case_journal.specs.StandingLaws.{new_branch, parent_below}
 use Rattle.backjump.specs.Cases.{IsCaseEntry, OnlyCloses, IsSettledAt, IsSettledAbove, CanClose, IsPairStep, IsClosingEvent, case_line}
-use Rattle.backjump.proofs.Deaths.{owner_on, on_path_le, with_line, new_empty, settled_after}
+use Rattle.case_journal.specs.DeathLaws.{owner_on, on_path_le, with_line, new_empty}
+use Rattle.backjump.proofs.Deaths.{settled_after}
 use Rattle.backjump.proofs.Pairs.{HasPair, pairs, inner_pair}
 use Rattle.backjump.proofs.Cases.{closing_legal, open_or_proved, still_open}
 

@@ -44,7 +44,9 @@ fn sided_line(
     requires split_there { split ≤ steps table.now.setting table.now.past }
     requires twin_some { 1 ≤ twin_empty }
     requires twin_there { twin_empty ≤ steps table.now.setting table.now.past }
-    ensures { IfOk result (λ line. (whole other : Line) → numbered (ledger table.now.setting table.now.past) split ≡ Some whole → numbered (ledger table.now.setting table.now.past) twin_empty ≡ Some other
+    ensures { IfOk result (λ line. (whole other : Line)
+        → numbered (ledger table.now.setting table.now.past) split ≡ Some whole
+        → numbered (ledger table.now.setting table.now.past) twin_empty ≡ Some other
         → line ≡ sided_line at split whole.stated.deps number deps.now twin_empty other.stated.deps) }
 {
     let whole = &table.line(split).stated.deps;
@@ -75,9 +77,10 @@ fn next_step(
 ) -> Result<Option<Next>, AllocError>
     requires some { 0 < at }
     requires there { at < nodes table.now.past }
-    ensures { IfOk result (λ found. MatchOption found (IsLive table.now.setting table.now.past (twin_of at)) (λ next. IsNextEvent table.now.setting table.now.past at number deps.now next.node next.deps next.event)) }
+    ensures { IfOk result (λ found. MatchOption found (IsLive table.now.setting table.now.past (twin_of at))
+        (λ next. IsNextEvent table.now.setting table.now.past at number deps.now next.node next.deps next.event)) }
 {
-    table.journal_is_legal();
+    table.laws();
     let count = table.nodes();
     let (inner, split) = split_above(table, at);
     let Some(twin_empty) = table.first_empty(twin_of(at, count)) else {
@@ -113,7 +116,7 @@ fn planned(
     requires empty { IsSomeAnd (last_line chain) (λ l. is_empty l.stated.clause ≡ true) }
     ensures { IfOk result (λ events. IsPlan table.now.setting table.now.past by (Publish node chain false) events.items) }
 {
-    table.journal_is_legal();
+    table.laws();
     let mut number = next_number(table.steps())?;
     let mut at = node;
     let mut deps = chain.as_slice()[0].stated.deps.copy()?;
@@ -176,7 +179,7 @@ pub fn close(
     ensures ended { OnOk result (IsOpenOrProved table.new.past) }
     ensures err { OnErr result (table.new ≡ table.old) }
 {
-    let _count = table.nodes();
+    table.laws();
     let events = planned(alloc, table, by, node, chain)?;
     let count = events.len() as u32;
     table.reserve(count, count)?;

@@ -53,7 +53,8 @@ pub fn publication(
 pub fn split_above(table: &Table, child: u32) -> (u32, u32)
     requires some { 0 < child }
     requires there { child < nodes table.now.past }
-    ensures { (b : Branch) → branch table.now.past child ≡ Some b → (b.parent ≡ result.0) × (b.assumed.split ≡ result.1) }
+    ensures { (b : Branch) → branch table.now.past child ≡ Some b
+        → (b.parent ≡ result.0) × (b.assumed.split ≡ result.1) }
 {
     match (table.parent(child), table.assumption(child)) {
         (Some(parent), Some(assumption)) => (parent, assumption.split),
@@ -65,10 +66,10 @@ pub fn split_above(table: &Table, child: u32) -> (u32, u32)
 fn closed_above(table: &Table, place: u32) -> Option<Closed>
     requires { 2 * place + 1 < nodes table.now.past }
     ensures { MatchOption result (IsSettledAbove table.now.setting table.now.past (2 * place + 1))
-        (λ c. CanClose table.now.setting table.now.past c.inner c.split (2 * place + 1) (2 * place + 2) c.left_empty c.right_empty) }
+        (λ c. CanClose table.now.setting table.now.past c.inner c.split
+        (2 * place + 1) (2 * place + 2) c.left_empty c.right_empty) }
 {
-    table.journal_is_legal();
-    let _count = table.nodes();
+    table.laws();
     let left = 2 * place + 1;
     let (inner, split) = split_above(table, left);
     if !table.live(inner) {
@@ -99,10 +100,11 @@ fn closing(
     requires some { 1 ≤ by }
     requires worker { by ≤ table.now.setting.workers }
     requires unended { first_end table.now.past ≡ None }
-    requires closed { CanClose table.now.setting table.now.past closed.inner closed.split (2 * place + 1) (2 * place + 2) closed.left_empty closed.right_empty }
+    requires closed { CanClose table.now.setting table.now.past closed.inner closed.split
+        (2 * place + 1) (2 * place + 2) closed.left_empty closed.right_empty }
     ensures { IfOk result (λ event. IsClosingEvent table.now.setting table.now.past by closed.inner event) }
 {
-    table.journal_is_legal();
+    table.laws();
     let line = case_line(
         alloc,
         closed.split,
@@ -126,12 +128,13 @@ fn close_pair(
     requires some { 1 ≤ by }
     requires worker { by ≤ table.old.setting.workers }
     requires unended { first_end table.old.past ≡ None }
-    requires closed { CanClose table.old.setting table.old.past closed.inner closed.split (2 * place + 1) (2 * place + 2) closed.left_empty closed.right_empty }
+    requires closed { CanClose table.old.setting table.old.past closed.inner closed.split
+        (2 * place + 1) (2 * place + 2) closed.left_empty closed.right_empty }
     ensures setting { table.new.setting ≡ table.old.setting }
     ensures step { IsPairStep table.old.setting by place table.old.past table.new.past }
     ensures settled { OnOk result (IsSettledAbove table.new.setting table.new.past (2 * place + 1)) }
 {
-    table.journal_is_legal();
+    table.laws();
     table.reserve(1, 1)?;
     let event = closing(alloc, table, by, place, closed)?;
     table.apply(by, event);
@@ -148,7 +151,7 @@ fn settle_pair(alloc: Global, table: &mut Table, by: u32, place: u32) -> Result<
     ensures step { IsPairStep table.old.setting by place table.old.past table.new.past }
     ensures settled { OnOk result (IsSettledAbove table.new.setting table.new.past (2 * place + 1)) }
 {
-    table.journal_is_legal();
+    table.laws();
     match closed_above(table, place) {
         Some(closed) => close_pair(alloc, table, by, place, closed),
         None => Ok(()),
@@ -178,6 +181,6 @@ pub fn settle(alloc: Global, table: &mut Table, by: u32) -> Result<(), AllocErro
         place -= 1;
         settle_pair(alloc, table, by, place)?;
     }
-    table.journal_is_legal();
+    table.laws();
     Ok(())
 }

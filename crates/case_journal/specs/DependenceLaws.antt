@@ -6,8 +6,8 @@ use Rattle.std.specs.List.{slice_get}
 use Rattle.spl_terms.specs.declared.clause.Clause.{Clause}
 use Rattle.dep_sets.specs.declared.deps.Assumption.{Assumption}
 use Rattle.dep_sets.specs.Assumptions.{contains_assumption, is_same_assumption, united, without_assumption}
-use Rattle.dep_sets.proofs.Order.{same-is_same}
-use Rattle.dep_sets.proofs.Sets.{united_contains, without_contains}
+use Rattle.dep_sets.specs.OrderLaws.{same_self, same-is_same}
+use Rattle.dep_sets.specs.SetLaws.{united_contains, without_contains}
 use Rattle.proof_steps.specs.declared.step.Statement.{Statement}
 use Rattle.proof_steps.specs.declared.step.Step.{Step}
 use Rattle.proof_steps.specs.declared.step.Line.{Line}
@@ -200,9 +200,6 @@ inferred_assumed s past legal each w node l a c p has =
       | inr two ↦ stated_assumed s past legal each p.leaf p.second t.q a there (premise_listed s past legal p.leaf p.clause p.second p.chosen p.pair.right) t.second two
     ] in
     subst (λ n. IsAssumedAt past n a) (sym p.owner) (owner_assumes s past legal l.stated.deps p.leaf a there has at)
-
-pub same_self : (a : Assumption) → is_same_assumption a a ≡ true
-same_self a = and_from (eqb a.split a.split) (eqb a.side a.side) (eq-eqb a.split a.split refl) (eq-eqb a.side a.side refl)
 
 pub child_some : (past : List Entry) (m clause side child : ℕ) → IsChild past m clause side child → 0 < child
 child_some past m clause side zero h = let bad = sym (branch_root past) ∙ h.hangs in absurd (cc)

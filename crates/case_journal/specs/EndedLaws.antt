@@ -27,7 +27,8 @@ use Rattle.case_journal.specs.BranchLaws.{branch_root, climbs}
 use Rattle.case_journal.specs.LeafLaws.{claimer_within}
 use Rattle.case_journal.specs.LedgerLaws.{input_line_at}
 use Rattle.case_journal.specs.StandingLaws.{published_within, split_here}
-use Rattle.case_journal.specs.DependenceLaws.{same_self, chain_line, numbered_old, child_some}
+use Rattle.dep_sets.specs.OrderLaws.{same_self}
+use Rattle.case_journal.specs.DependenceLaws.{chain_line, numbered_old, child_some}
 use Rattle.case_journal.specs.ClosedLaws.{dead_closed}
 
 -- ---- an input clause without atoms

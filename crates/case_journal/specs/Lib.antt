@@ -19,6 +19,7 @@ pub mod LedgerLaws
 pub mod SymbolLaws
 pub mod StandingLaws
 pub mod DependenceLaws
+pub mod DeathLaws
 pub mod ClosedLaws
 pub mod EndedLaws
 pub mod RootLaws

@@ -3,9 +3,9 @@ ghost use Rattle.std.specs.Prelude.{◌≡◌, ◌<◌, length, slice_get, Some}
 ghost use Rattle.case_journal.specs.Journal.{IsSmall, lines_of, is_counted, count_of};
 ghost use Rattle.case_journal.specs.Paths.{subject};
 ghost use Rattle.case_journal.specs.Facts.{is_stop, claimed_by};
-ghost use Rattle.case_journal.specs.Ending.{is_contradiction, ends_contradictory, end_by};
+ghost use Rattle.case_journal.specs.Ending.{ends_contradictory, end_by};
 
-use proof_steps::{Line, Rule, Statement};
+use proof_steps::{Line, Rule, is_contradiction};
 use spl_terms::Items;
 
 /// How much a run may spend.
@@ -130,13 +130,6 @@ pub fn count_of(lines: &[Line]) -> usize
         }
     }
     count
-}
-
-/// Whether the statement is the empty clause and depends on no assumption.
-pub fn is_contradiction(stated: &Statement) -> bool
-    ensures { result ≡ is_contradiction stated.now }
-{
-    stated.clause.is_empty() && stated.deps.is_empty()
 }
 
 fn ends_contradictory(lines: &[Line]) -> bool

@@ -11,4 +11,4 @@ mod branch;
 mod event;
 
 pub use branch::Branch;
-pub use event::{End, Entry, Event, Limits, count_of, is_contradiction, subject};
+pub use event::{End, Entry, Event, Limits, count_of, subject};

@@ -16,7 +16,7 @@ use Rattle.case_journal.specs.Journal.{Setting, ledger, steps}
 use Rattle.case_journal.specs.Picking.{is_passive}
 use Rattle.case_queue.specs.declared.queue.CaseQueue.{CaseQueue}
 use Rattle.case_queue.specs.Queues.{HasFirst, HasQueue, HasPassive, IsPut, PutsPassive, IsEntry, IsTop, by_weight, entries}
-use Rattle.case_queue.proofs.Lines.{numbered_some, numbered_once}
+use Rattle.case_queue.specs.LineLaws.{numbered_some, numbered_once}
 
 -- after one more clause, which is not passive
 first_skips : (s : Setting) (past : List Entry) (m n : ℕ) (q : CaseQueue) → 1 ≤ n → HasFirst s past m (n - 1) q → is_passive s past m n ≡ false → HasFirst s past m n q

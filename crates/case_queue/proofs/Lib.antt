@@ -1,5 +1,3 @@
-pub mod Lines
-pub mod Keeping
 pub mod Best
 pub mod Oldest
 pub mod Lightest

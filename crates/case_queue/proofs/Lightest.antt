@@ -13,7 +13,7 @@ use Rattle.case_journal.specs.Journal.{Setting, ledger, steps}
 use Rattle.case_journal.specs.Picking.{is_passive, weighed}
 use Rattle.case_queue.specs.declared.queue.CaseQueue.{CaseQueue}
 use Rattle.case_queue.specs.Queues.{HasFirst, HasQueue, IsEntry, IsTop, by_weight, entries, best_by}
-use Rattle.case_queue.proofs.Lines.{numbered_within, numbered_once}
+use Rattle.case_queue.specs.LineLaws.{numbered_within, numbered_once}
 use Rattle.case_queue.proofs.Best.{IsFirstTo, best_is, best_none}
 
 -- the top is a clause of the ledger

@@ -7,7 +7,7 @@ use Rattle.case_journal.specs.declared.event.Entry.{Entry}
 use Rattle.case_journal.specs.Journal.{Setting, ledger, steps}
 use Rattle.case_journal.specs.Picking.{is_passive, weighed}
 use Rattle.case_queue.specs.Queues.{best_by}
-use Rattle.case_queue.proofs.Lines.{numbered_some, numbered_within, numbered_there, numbered_once}
+use Rattle.case_queue.specs.LineLaws.{numbered_some, numbered_within, numbered_there, numbered_once}
 use Rattle.case_queue.proofs.Best.{IsFirstTo, best_is, best_none}
 
 less_is : (n i : ℕ) → n < i → nat_lt n i ≡ true

@@ -73,7 +73,7 @@ impl CaseQueue {
         requires within { number ≤ steps table.now.setting table.now.past }
         ensures { OnOk result (PutsPassive table.now.setting table.now.past node number self.old self.new) }
     {
-        table.ledger_is_concluded();
+        table.laws();
         if table.passive(node, number) {
             let symbols = symbols_of(&table.line(number).stated.clause);
             self.lightest.push(Reverse((symbols, number)))?;

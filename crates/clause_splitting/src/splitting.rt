@@ -75,7 +75,8 @@ fn add_negations(
     requires there { clause ≤ steps table.now.setting table.now.past }
     requires can { (k : ℕ) → k < count → CanAssume table.now.setting table.now.past clause 2 (Some k) }
     requires concluded { AreConcluded table.now.setting table.now.past lines.old }
-    ensures steps { OnOk result (map (λ l. l.step) lines.new ≡ map (λ l. l.step) lines.old ++ negations clause 0 count) }
+    ensures steps { OnOk result (map (λ l. l.step) lines.new
+        ≡ map (λ l. l.step) lines.old ++ negations clause 0 count) }
     ensures concluded { OnOk result (AreConcluded table.now.setting table.now.past lines.new) }
 {
     for number in 0..count {
@@ -98,7 +99,7 @@ fn assume_lines(
     ensures steps { IfOk result (λ lines. map (λ l. l.step) lines ≡ assume_steps clause parts.now) }
     ensures concluded { IfOk result (λ lines. AreConcluded table.now.setting table.now.past lines) }
 {
-    table.ledger_is_concluded();
+    table.laws();
     let mut lines = Items::with_room(alloc, 3)?;
     lines.push(assume_line(alloc, table, clause, 1, None)?)?;
     lines.push(assume_line(alloc, table, clause, 2, None)?)?;
@@ -142,12 +143,14 @@ pub fn split(
     requires kept { kept table.old.setting table.old.past node clause ≡ true }
     requires free { splits table.old.past < table.old.setting.limits.splits }
     requires settled { IsSettled table.old.setting table.old.past }
-    requires parted { (l : Line) → numbered (ledger table.old.setting table.old.past) clause ≡ Some l → parts_of l.stated.clause ≡ Some parts.now }
+    requires parted { (l : Line) → numbered (ledger table.old.setting table.old.past) clause ≡ Some l
+        → parts_of l.stated.clause ≡ Some parts.now }
     ensures setting { table.new.setting ≡ table.old.setting }
-    ensures done { IfOk result (λ done. MatchBool done (IsSplitBy by node table.old table.new) (IsFullBy by node table.old table.new)) }
+    ensures done { IfOk result
+        (λ done. MatchBool done (IsSplitBy by node table.old table.new) (IsFullBy by node table.old table.new)) }
     ensures err { OnErr result (table.new ≡ table.old) }
 {
-    table.journal_is_legal();
+    table.laws();
     let steps = assume_lines(alloc, table, clause, parts)?;
     let put_off = none_put_off(alloc, steps.len())?;
     let count = number_of(steps.len())?;

@@ -4,8 +4,8 @@ use Rattle.std.proofs.lemmas.Bool.Decides.{nat_tests}
 use Rattle.std.specs.List.{AllByRecursion, slice_get}
 use Rattle.dep_sets.specs.declared.deps.Assumption.{Assumption}
 use Rattle.dep_sets.specs.Assumptions.{is_same_assumption, is_before, IsBefore, IsAscending, contains_assumption, with_assumption, united, without_assumption}
-use Rattle.dep_sets.proofs.Order.{is_before_true, is_before_false, is_same_false, is_same_before, before-is_before, before-else, same-is_same}
-use Rattle.dep_sets.proofs.Sets.{ascending_tail, ascending_after, with_front}
+use Rattle.dep_sets.specs.OrderLaws.{is_before_true, is_before_false, is_same_false, is_same_before, before-is_before, before-else, same-is_same}
+use Rattle.dep_sets.specs.SetLaws.{ascending_tail, ascending_after, with_front}
 use Rattle.proof_extract.specs.Extracting.{renumbered_assumption, renumbered_deps}
 
 -- the map keeps the order of the numbers of which P holds

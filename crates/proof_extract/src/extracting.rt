@@ -37,7 +37,8 @@ fn add_line(
     requires some { 1 ≤ number }
     requires marked { number ≤ length marks.now }
     requires there { number ≤ steps table.now.setting table.now.past }
-    ensures { OnOk result (out.new ≡ out.old ++ taken (new_number marks.now) (numbered marks.now number) (numbered (ledger table.now.setting table.now.past) number)) }
+    ensures { OnOk result (out.new ≡ out.old ++ taken (new_number marks.now) (numbered marks.now number)
+        (numbered (ledger table.now.setting table.now.past) number)) }
 {
     if marks[number as usize - 1] {
         out.push(new_line(alloc, marks, counts, table.line(number))?)?;
@@ -79,11 +80,15 @@ pub fn extract(alloc: Global, table: &Table, clause: u32) -> Result<Items<Line>,
     requires there { clause ≤ steps table.now.setting table.now.past }
     ensures proof { IfOk result (IsProofOf (ledger table.now.setting table.now.past) clause) }
     ensures conclusions { IfOk result (AreConclusions table.now.setting.input) }
-    ensures checked { IfOk result (λ proof. IsContradictory (ledger table.now.setting table.now.past) clause → Checked table.now.setting.input proof) }
-    ensures refuted { IfOk result (λ proof. IsContradictory (ledger table.now.setting table.now.past) clause → Refuted table.now.setting.input) }
+    ensures checked { IfOk result
+        (λ proof. IsContradictory (ledger table.now.setting table.now.past) clause
+        → Checked table.now.setting.input proof) }
+    ensures refuted { IfOk result
+        (λ proof. IsContradictory (ledger table.now.setting table.now.past) clause
+        → Refuted table.now.setting.input) }
     ensures count { IfOk result (λ proof. length proof ≤ clause) }
 {
-    table.ledger_is_concluded();
+    table.laws();
     let marks = ancestors(alloc, table, clause)?;
     let counts = counts(alloc, marks.as_slice())?;
     marked_lines(alloc, table, marks.as_slice(), counts.as_slice())

@@ -54,7 +54,7 @@ pub(crate) fn ancestors(
     requires there { clause ≤ steps table.now.setting table.now.past }
     ensures { IfOk result (λ marks. AreAncestors (ledger table.now.setting table.now.past) clause marks) }
 {
-    table.ledger_is_concluded();
+    table.laws();
     let mut marks = Items::from_vec(vec![in alloc; false; clause as usize]?);
     mark(&mut marks, clause);
     let mut number = clause;

@@ -1,21 +1,16 @@
 //! The contradictions of a ledger.
-ghost use Rattle.std.specs.Prelude.{ℕ, ◌↔◌, IsTrue, MatchOption};
-ghost use Rattle.proof_steps.specs.Checked.{IsContradiction};
+ghost use Rattle.std.specs.Prelude.{ℕ, MatchOption};
 ghost use Rattle.case_journal.specs.Journal.{ledger};
 ghost use Rattle.proof_extract.specs.Contradictions.{IsContradictory, IsFirstContradiction};
 
-use proof_steps::Statement;
+use proof_steps::is_contradiction;
 use split_tree::Table;
-
-fn is_contradiction(stated: &Statement) -> bool
-    ensures { IsTrue result ↔ IsContradiction stated.now }
-{
-    stated.clause.is_empty() && stated.deps.is_empty()
-}
 
 /// The smallest number of a line that states the empty clause without dependencies, from 1; none where no line does.
 pub fn first_contradiction(table: &Table) -> Option<u32>
-    ensures { MatchOption result ((n : ℕ) → ¬ IsContradictory (ledger table.now.setting table.now.past) n) (IsFirstContradiction (ledger table.now.setting table.now.past)) }
+    ensures { MatchOption result
+        ((n : ℕ) → ¬ IsContradictory (ledger table.now.setting table.now.past) n)
+        (IsFirstContradiction (ledger table.now.setting table.now.past)) }
 {
     for k in 0..table.steps() {
         if is_contradiction(&table.line(k + 1).stated) {

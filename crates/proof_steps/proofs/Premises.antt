@@ -6,8 +6,8 @@ use Rattle.spl_terms.specs.declared.clause.Clause.{Clause}
 use Rattle.spl_truth.proofs.Replacing.{and_both}
 use Rattle.dep_sets.specs.declared.deps.Assumption.{Assumption}
 use Rattle.dep_sets.specs.Assumptions.{is_same_assumption, contains_assumption, united, without_assumption}
-use Rattle.dep_sets.proofs.Order.{same-is_same}
-use Rattle.dep_sets.proofs.Sets.{united_contains, without_contains}
+use Rattle.dep_sets.specs.OrderLaws.{same_self, same-is_same}
+use Rattle.dep_sets.specs.SetLaws.{united_contains, without_contains}
 use Rattle.proof_steps.specs.declared.step.Statement.{Statement}
 use Rattle.proof_steps.specs.declared.step.Line.{Line}
 use Rattle.clause_parts.specs.Parts.{Parted, parts_of}
@@ -31,9 +31,6 @@ pub Contains-nil : {A : Type 0} (y : A) → Contains {X = A} [] y → ⊥
 Contains-nil y (k, h, e) = omega (arith, h)
 
 -- ---- sets of assumptions
-
-same_self : (a : Assumption) → is_same_assumption a a ≡ true
-same_self a = and_both (a.split == a.split) (a.side == a.side) (eq-eqb a.split a.split refl) (eq-eqb a.side a.side refl)
 
 pub in_one : (a : Assumption) → contains_assumption (a ∷ []) a ≡ true
 in_one a = ap (λ b. b || false) (same_self a)

@@ -1,4 +1,4 @@
-// What a table keeps beside its journal, entry by entry.
+//! What a table keeps beside its journal, entry by entry.
 ghost use Rattle.std.specs.Prelude.{◌≡◌, ◌+◌, ◌-◌, ◌<◌, ◌≤◌, ◌^◌, [], ◌∷◌, ◌++◌, length, vec_len, vec_capacity, insert, replicate};
 ghost use Rattle.spl_terms.specs.Clauses.{is_empty};
 ghost use Rattle.case_journal.specs.Journal.{lines_of, count_of, nodes_of, choices_of, splits_of, AreSmall};

@@ -13,7 +13,7 @@ use Rattle.case_journal.specs.Facts.{chosen, claimed, IsDead}
 use Rattle.case_journal.specs.Ending.{first_end}
 use Rattle.case_journal.specs.Legal.{IsSettled}
 use Rattle.backjump.specs.Cases.{OnlyCloses, IsCaseEntry}
-use Rattle.backjump.proofs.Deaths.{new_empty, owner_on}
+use Rattle.case_journal.specs.DeathLaws.{new_empty, owner_on}
 use Rattle.worker_cases.specs.Working.{IsSound, IsBetween, IsBusy, KeepsWork}
 use Rattle.worker_cases.proofs.TreeLemmas.{published}
 use Rattle.worker_cases.proofs.IndexLemmas.{work_self, work_more, publish_work}

@@ -27,7 +27,7 @@ use Rattle.case_journal.specs.PickLaws.{pick_passive}
 use Rattle.worker_cases.specs.Covering.{Grows, AddsLine}
 use Rattle.worker_cases.specs.Working.{listing, IsSound, IsOpen, IsBetween, IsWorking, IsIdle, IsBusy, ArePartners, IsMate, IsNewLine, IsStep}
 use Rattle.worker_cases.proofs.FilingLemmas.{numbered_left, numbered_last, numbered_within}
-use Rattle.backjump.proofs.Deaths.{owner_on}
+use Rattle.case_journal.specs.DeathLaws.{owner_on}
 use Rattle.worker_cases.proofs.PathLemmas.{worked_listed}
 use Rattle.worker_cases.proofs.TreeLemmas.{KeepsTree, settled_keeps, quiet_tree, quiet_listing, publish_tree, published, publishes_here, publishes_cases, publishes_old, publish_grows}
 use Rattle.worker_cases.proofs.CoverLemmas.{grows_self, grows_more, number_grows}

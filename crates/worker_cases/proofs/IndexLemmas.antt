@@ -13,7 +13,7 @@ use Rattle.case_journal.specs.Facts.{IsDead, IsLive}
 use Rattle.case_journal.specs.PathLaws.{on_path-self, leaf_path}
 use Rattle.case_journal.specs.ListedLaws.{listed_within}
 use Rattle.case_journal.specs.Legal.{IsLegalJournal}
-use Rattle.backjump.proofs.Deaths.{dead_after, dead_below}
+use Rattle.case_journal.specs.DeathLaws.{dead_after, dead_below}
 use Rattle.case_queue.specs.declared.queue.CaseQueue.{CaseQueue}
 use Rattle.case_queue.specs.Queues.{HasQueue}
 use Rattle.worker_cases.specs.declared.index.Activation.{Activation}

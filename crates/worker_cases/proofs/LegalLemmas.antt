@@ -20,7 +20,7 @@ use Rattle.case_journal.specs.Legal.{IsLegal, IsPublishable, IsListed, AreInfere
 use Rattle.case_journal.specs.BoundLaws.{rounds_bound}
 use Rattle.worker_cases.specs.Working.{IsBetween, IsIdle, IsBusy, IsLarge, IsNewLine}
 use Rattle.worker_cases.proofs.OrderLemmas.{conclude_in_order, own_renumbering}
-use Rattle.backjump.proofs.Deaths.{listed_below, owner_on}
+use Rattle.case_journal.specs.DeathLaws.{listed_below, owner_on}
 
 pub legal_choose : (s : Setting) (past : List Entry) (m clause : ℕ) → IsIdle s past m → rounds past < s.limits.rounds → pick_at s past m ≡ Some clause → IsLegal s past 1 (Choose m clause None)
 legal_choose s past m clause h few picked =

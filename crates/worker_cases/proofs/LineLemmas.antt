@@ -11,7 +11,7 @@ use Rattle.case_journal.specs.Facts.{listed, IsDead, IsLive}
 use Rattle.case_journal.specs.Legal.{IsLegalJournal}
 use Rattle.case_journal.specs.PathLaws.{on_path-self}
 use Rattle.case_journal.specs.PlaceLaws.{in_input}
-use Rattle.backjump.proofs.Deaths.{dead_below}
+use Rattle.case_journal.specs.DeathLaws.{dead_below}
 use Rattle.worker_cases.specs.Covering.{IsNumber}
 use Rattle.worker_cases.specs.Partners.{is_in}
 use Rattle.worker_cases.specs.Working.{IsLiveLine, HasLines, AddsWanted}

@@ -11,7 +11,7 @@ use Rattle.case_journal.specs.Legal.{IsLegalJournal}
 use Rattle.case_journal.specs.PathLaws.{on_path-self, or_absorb}
 use Rattle.case_journal.specs.PlaceLaws.{stem_there}
 use Rattle.case_journal.specs.DependenceLaws.{chosen_listed}
-use Rattle.backjump.proofs.Deaths.{listed_below}
+use Rattle.case_journal.specs.DeathLaws.{listed_below}
 
 some_number : (o : Option ℕ) (n : ℕ) → is_number o n ≡ true → o ≡ Some n
 some_number None n e = absurd (false≢true e)

@@ -10,7 +10,7 @@ use Rattle.case_journal.specs.Facts.{listed, kept, worked, split, IsLive}
 use Rattle.case_journal.specs.Picking.{is_passive}
 use Rattle.case_queue.specs.declared.queue.CaseQueue.{CaseQueue}
 use Rattle.case_queue.specs.Queues.{HasFirst, HasQueue, HasPassive}
-use Rattle.case_queue.proofs.Keeping.{first_keeps}
+use Rattle.case_queue.specs.KeepingLaws.{first_keeps}
 use Rattle.worker_cases.specs.Covering.{AddsLine}
 use Rattle.worker_cases.specs.Working.{listing, HasLines, KeepsWork}
 use Rattle.worker_cases.proofs.Lists.{at_member, member_place}

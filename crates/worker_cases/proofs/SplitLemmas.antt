@@ -12,7 +12,7 @@ use Rattle.case_journal.specs.Legal.{IsLegalJournal, IsSettled}
 use Rattle.case_journal.specs.PathLaws.{on_path-self, stem_old, stem_high, not_true}
 use Rattle.case_journal.specs.PlaceLaws.{stem_there, lists_new}
 use Rattle.case_journal.specs.FreshLaws.{fresh_chosen}
-use Rattle.backjump.proofs.Deaths.{dead_after}
+use Rattle.case_journal.specs.DeathLaws.{dead_after}
 use Rattle.worker_cases.specs.declared.index.Activation.{Activation}
 use Rattle.worker_cases.specs.declared.index.Index.{Index}
 use Rattle.worker_cases.proofs.LineLemmas.{lines_keep}

@@ -11,7 +11,7 @@ loop-at-init c =
     let xs = c.as_slice.result.now in
     let one = ap length (c.requires.legal.asked.asked.one) in
     let got = slice_get_read xs (length xs) 0 c.index-as_slice-0.result refl (omega (arith, one, ap length c.as_slice.ensures)) c.index-as_slice-0.is in
-    plan_first s p c.args.by c.args.node c.args.chain c.index-as_slice-0.result c.journal_is_legal.ensures c.requires.legal c.requires.settled (ap (λ ys. slice_get ys 0) (sym c.as_slice.ensures) ∙ got) c.requires.empty
+    plan_first s p c.args.by c.args.node c.args.chain c.index-as_slice-0.result c.laws.ensures.legal c.requires.legal c.requires.settled (ap (λ ys. slice_get ys 0) (sym c.as_slice.ensures) ∙ got) c.requires.empty
     c.in_ok-events.events.items c.in_ok-events.ensures.items c.in_ok-deps.deps (c.in_ok-deps.ensures ∙ ap (λ x. x.stated.deps) (sym c.index-as_slice-0.is)) c.in_ok-number.number (c.in_ok-number.ensures ∙ ap (λ n. n + 1) c.steps.ensures)
 
 pub next_step-requires-clause-there : goal.next_step-requires-clause-there
@@ -24,12 +24,12 @@ returns-in_default c =
     let i = c.loop-at.invariant in
     let live = none_due s p c.loop-at.at c.loop-at.number c.loop-at.deps c.in_ok-next.field-0 c.in_ok-next.ensures c.in_default.is in
     plan_done s p c.args.by (Publish c.args.node c.args.chain false) c.loop-at.events.items c.loop-at.at c.loop-at.number c.loop-at.deps i
-    (twin_settled s p _ c.args.by c.loop-at.at c.loop-at.number c.loop-at.deps c.journal_is_legal.ensures i.way c.loop-at-test.true live)
+    (twin_settled s p _ c.args.by c.loop-at.at c.loop-at.number c.loop-at.deps c.laws.ensures.legal i.way c.loop-at-test.true live)
 
 pub loop-at-smaller : goal.loop-at-smaller
 loop-at-smaller c =
     let next = next_of c.args.table.now.setting c.args.table.now.past c.loop-at.at c.loop-at.number c.loop-at.deps c.in_ok-next.field-0 c.in-Some.next c.in_ok-next.ensures c.in-Some.is in
-    next_low c.args.table.now.setting c.args.table.now.past c.journal_is_legal.ensures c.args.by (Publish c.args.node c.args.chain false) c.loop-at.events.items c.loop-at.at c.loop-at.number c.loop-at.deps c.requires.legal.some c.requires.legal.worker
+    next_low c.args.table.now.setting c.args.table.now.past c.laws.ensures.legal c.args.by (Publish c.args.node c.args.chain false) c.loop-at.events.items c.loop-at.at c.loop-at.number c.loop-at.deps c.requires.legal.some c.requires.legal.worker
     c.loop-at.invariant c.loop-at-test.true c.in-Some.next.node c.in-Some.next.deps c.in-Some.next.event next
 
 pub loop-at-preserved : goal.loop-at-preserved
@@ -37,7 +37,7 @@ loop-at-preserved c =
     let s = c.args.table.now.setting in
     let p = c.args.table.now.past in
     let next = next_of c.args.table.now.setting c.args.table.now.past c.loop-at.at c.loop-at.number c.loop-at.deps c.in_ok-next.field-0 c.in-Some.next c.in_ok-next.ensures c.in-Some.is in
-    let made = plan_more s p c.journal_is_legal.ensures c.args.by (Publish c.args.node c.args.chain false) c.loop-at.events.items c.loop-at.at c.loop-at.number c.loop-at.deps c.requires.legal.some c.requires.legal.worker
+    let made = plan_more s p c.laws.ensures.legal c.args.by (Publish c.args.node c.args.chain false) c.loop-at.events.items c.loop-at.at c.loop-at.number c.loop-at.deps c.requires.legal.some c.requires.legal.worker
     c.loop-at.invariant c.loop-at-test.true c.in-Some.next.node c.in-Some.next.deps c.in-Some.next.event next c.push.new.self.items c.in_ok-push.ensures.items in
     subst (λ k. IsPlanned s p c.args.by (Publish c.args.node c.args.chain false) c.push.new.self.items c.in-Some.next.node k c.in-Some.next.deps) (sym c.in_ok-number-2.ensures) made
 

@@ -63,7 +63,7 @@ returns-clause-closes c = c.loop-place.invariant.closes
 
 pub returns-clause-settled : goal.returns-clause-settled
 returns-clause-settled c =
-    all_settled c.loop-place.table.setting c.loop-place.table.past c.journal_is_legal.ensures (λ j low. c.loop-place.invariant.settled j (omega (arith, c.loop-place-test.false)) low)
+    all_settled c.loop-place.table.setting c.loop-place.table.past c.laws.ensures.legal (λ j low. c.loop-place.invariant.settled j (omega (arith, c.loop-place-test.false)) low)
 
 pub returns-clause-ended : goal.returns-clause-ended
 returns-clause-ended c = c.loop-place.invariant.ended

@@ -6,14 +6,14 @@ use Rattle.clause_splitting.proofs.splitting.assume_lines.Goals as goal
 use Rattle.clause_splitting.proofs.splitting.assume_lines.Goals.{then-parts+in_ok-count+in_ok-add_negations, else-parts}
 
 pub assume_line-requires-clause-can : goal.assume_line-requires-clause-can
-assume_line-requires-clause-can c = can_left c.args.table.now.setting c.args.table.now.past c.args.clause c.args.parts.now c.ledger_is_concluded.ensures c.requires.parted
+assume_line-requires-clause-can c = can_left c.args.table.now.setting c.args.table.now.past c.args.clause c.args.parts.now c.laws.ensures.concluded c.requires.parted
 
 pub assume_line-requires-2-clause-can : goal.assume_line-requires-2-clause-can
-assume_line-requires-2-clause-can c = can_right c.args.table.now.setting c.args.table.now.past c.args.clause c.args.parts.now c.ledger_is_concluded.ensures c.requires.parted
+assume_line-requires-2-clause-can c = can_right c.args.table.now.setting c.args.table.now.past c.args.clause c.args.parts.now c.laws.ensures.concluded c.requires.parted
 
 pub add_negations-requires-clause-can : goal.add_negations-requires-clause-can
 add_negations-requires-clause-can c = λ k h.
-    can_negate c.args.table.now.setting c.args.table.now.past c.args.clause c.args.parts.now c.ledger_is_concluded.ensures c.requires.parted c.if-parts.true k (omega (arith, h, c.in_ok-count.ensures, c.atom_count.ensures))
+    can_negate c.args.table.now.setting c.args.table.now.past c.args.clause c.args.parts.now c.laws.ensures.concluded c.requires.parted c.if-parts.true k (omega (arith, h, c.in_ok-count.ensures, c.atom_count.ensures))
 
 pub returns-clause-concluded : goal.returns-clause-concluded
 returns-clause-concluded c =

@@ -8,10 +8,10 @@ use Rattle.clause_splitting.proofs.Tree.{split_settled}
 use Rattle.clause_splitting.proofs.splitting.split.Goals as goal
 
 pub assume_lines-requires-clause-some : goal.assume_lines-requires-clause-some
-assume_lines-requires-clause-some c = (listed_within c.args.table.now.setting c.args.table.now.past c.journal_is_legal.ensures c.args.node c.args.clause c.requires.kept).0
+assume_lines-requires-clause-some c = (listed_within c.args.table.now.setting c.args.table.now.past c.laws.ensures.legal c.args.node c.args.clause c.requires.kept).0
 
 pub assume_lines-requires-clause-there : goal.assume_lines-requires-clause-there
-assume_lines-requires-clause-there c = (listed_within c.args.table.now.setting c.args.table.now.past c.journal_is_legal.ensures c.args.node c.args.clause c.requires.kept).1
+assume_lines-requires-clause-there c = (listed_within c.args.table.now.setting c.args.table.now.past c.laws.ensures.legal c.args.node c.args.clause c.requires.kept).1
 
 pub apply-requires-clause-legal : goal.apply-requires-clause-legal
 apply-requires-clause-legal c =
@@ -19,7 +19,7 @@ apply-requires-clause-legal c =
     let r = c.reserve.ensures in
     let lines = c.in_ok-steps.steps in
     let may : MaySplit t.setting t.past c.args.by c.args.node c.args.clause c.args.parts.now =
-    record { legal = c.journal_is_legal.ensures; some = c.requires.some; worker = c.requires.worker; unended = c.requires.unended; holds = c.requires.holds; chosen = c.requires.chosen; kept = c.requires.kept; free = c.requires.free; settled = c.requires.settled; parted = c.requires.parted } in
+    record { legal = c.laws.ensures.legal; some = c.requires.some; worker = c.requires.worker; unended = c.requires.unended; holds = c.requires.holds; chosen = c.requires.chosen; kept = c.requires.kept; free = c.requires.free; settled = c.requires.settled; parted = c.requires.parted } in
     let made : AreSplitLines t.setting t.past c.args.clause c.args.parts.now lines =
     record { steps = c.in_ok-steps.ensures.steps; concluded = c.in_ok-steps.ensures.concluded } in
     let many : t.setting.limits.steps < counted t.past + length lines =
@@ -34,7 +34,7 @@ apply-requires-2-clause-legal c =
     let lines = c.in_ok-steps.steps in
     let put_off = c.in_ok-put_off.put_off in
     let may : MaySplit t.setting t.past c.args.by c.args.node c.args.clause c.args.parts.now =
-    record { legal = c.journal_is_legal.ensures; some = c.requires.some; worker = c.requires.worker; unended = c.requires.unended; holds = c.requires.holds; chosen = c.requires.chosen; kept = c.requires.kept; free = c.requires.free; settled = c.requires.settled; parted = c.requires.parted } in
+    record { legal = c.laws.ensures.legal; some = c.requires.some; worker = c.requires.worker; unended = c.requires.unended; holds = c.requires.holds; chosen = c.requires.chosen; kept = c.requires.kept; free = c.requires.free; settled = c.requires.settled; parted = c.requires.parted } in
     let made : AreSplitLines t.setting t.past c.args.clause c.args.parts.now lines =
     record { steps = c.in_ok-steps.ensures.steps; concluded = c.in_ok-steps.ensures.concluded } in
     let off = c.in_ok-put_off.ensures ∙ ap (λ n. replicate n false) c.len.ensures in
@@ -50,7 +50,7 @@ returns-clause-done c =
     let lines = c.in_ok-steps.steps in
     let put_off = c.in_ok-put_off.put_off in
     let may : MaySplit t.setting t.past c.args.by c.args.node c.args.clause c.args.parts.now =
-    record { legal = c.journal_is_legal.ensures; some = c.requires.some; worker = c.requires.worker; unended = c.requires.unended; holds = c.requires.holds; chosen = c.requires.chosen; kept = c.requires.kept; free = c.requires.free; settled = c.requires.settled; parted = c.requires.parted } in
+    record { legal = c.laws.ensures.legal; some = c.requires.some; worker = c.requires.worker; unended = c.requires.unended; holds = c.requires.holds; chosen = c.requires.chosen; kept = c.requires.kept; free = c.requires.free; settled = c.requires.settled; parted = c.requires.parted } in
     let made : AreSplitLines t.setting t.past c.args.clause c.args.parts.now lines =
     record { steps = c.in_ok-steps.ensures.steps; concluded = c.in_ok-steps.ensures.concluded } in
     let off = c.in_ok-put_off.ensures ∙ ap (λ n. replicate n false) c.len.ensures in
@@ -61,5 +61,5 @@ returns-clause-done c =
       put_off = put_off;
       is = is;
       settled = moved (λ s p. IsSettled s p) t.setting new.setting (record { by = c.args.by; event = Split c.args.node lines put_off } ∷ t.past) new.past (c.apply-2.ensures.setting ∙ r.setting) is
-          (split_settled t.setting t.past c.args.by c.args.node lines put_off c.journal_is_legal.ensures (splittable t.setting t.past c.args.by c.args.node c.args.clause c.args.parts.now lines put_off may made off));
+          (split_settled t.setting t.past c.args.by c.args.node lines put_off c.laws.ensures.legal (splittable t.setting t.past c.args.by c.args.node c.args.clause c.args.parts.now lines put_off may made off));
     }

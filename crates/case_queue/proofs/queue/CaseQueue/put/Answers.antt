@@ -16,7 +16,7 @@ returns-in_ok-push c =
     let found = c.line.ensures in
     let old = c.args.self.now in
     let new = c.push.new.self in
-    let small = (c.ledger_is_concluded.ensures (n - 1) l (sym (numbered_get (ledger s p) n c.requires.some) ∙ found)).1 in
+    let small = (c.laws.ensures.concluded (n - 1) l (sym (numbered_get (ledger s p) n c.requires.some) ∙ found)).1 in
     let e : c.symbols_of-symbols.result ≡ clause_symbols l.stated.clause = omega (arith, small, c.symbols_of-symbols.ensures) in
     let moves = IsPermutation-map (λ (y : Reverse (ℕ × ℕ)). y.0) (_ ∷ heap_items old.lightest) (heap_items new) c.in_ok-push.ensures.permutation in
     inl (

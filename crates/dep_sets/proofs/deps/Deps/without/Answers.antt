@@ -1,7 +1,7 @@
 use Rattle.std.proofs.Common.{◌≡◌, ap, subst, sym, ◌∙◌, length, arith}
 use Rattle.std.proofs.lemmas.List.{take_all}
 use Rattle.dep_sets.specs.Assumptions.{IsAscending, contains_assumption, without_assumption}
-use Rattle.dep_sets.proofs.Sets.{without_ascending, length-without, without_contains}
+use Rattle.dep_sets.specs.SetLaws.{without_ascending, length-without, without_contains}
 use Rattle.dep_sets.proofs.deps.Deps.without.Goals as goal
 
 pub invariant_of-result : goal.invariant_of-result

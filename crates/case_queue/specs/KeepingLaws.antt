@@ -1,4 +1,4 @@
--- A queue stays one of the node where the journal goes on and no clause becomes passive.
+-- Laws that carry proofs, and no definitions that a reader must believe: a queue stays one of the node where the journal goes on and no clause becomes passive.
 use Rattle.std.proofs.Common.{◌≡◌, ◌∙◌, ℕ, ◌<◌, ◌≤◌, inl, inr, true, false, List, sym, arith}
 use Rattle.std.proofs.lemmas.Bool.{cases_Bool}
 use Rattle.std.proofs.lemmas.List.Elements.{All-weaker}
@@ -8,7 +8,7 @@ use Rattle.case_journal.specs.Journal.{Setting, ledger, steps}
 use Rattle.case_journal.specs.Picking.{is_passive}
 use Rattle.case_queue.specs.declared.queue.CaseQueue.{CaseQueue}
 use Rattle.case_queue.specs.Queues.{HasFirst, IsEntry, entries}
-use Rattle.case_queue.proofs.Lines.{numbered_some, numbered_within, numbered_same}
+use Rattle.case_queue.specs.LineLaws.{numbered_some, numbered_within, numbered_same}
 
 entry_keeps : (s : Setting) (old new : List Entry) → ((k : ℕ) → k < steps s old → slice_get (ledger s new) k ≡ slice_get (ledger s old) k) → (e : ℕ × ℕ) → IsEntry s old e → IsEntry s new e
 entry_keeps s old new same e h = record {
