@@ -1,3 +1,2 @@
 pub mod Cases
 pub mod Plans
-pub mod Samples
