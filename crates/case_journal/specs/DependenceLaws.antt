@@ -1,6 +1,6 @@
 -- Laws that carry proofs, and no definitions that a reader must believe: what was published at a node depends on assumptions of the node's path alone.
 use Rattle.std.proofs.Common.{◌≡◌, ℕ, zero, suc, ◌+◌, ◌-◌, ◌<◌, ◌≤◌, inl, inr, Bool, true, false, cond, not, ◌&&◌, ◌||◌, eqb, List, [], ◌∷◌, ◌++◌, length, Option, Some, None, option_map, refl, sym, ◌∙◌, ap, subst, arith, eq-eqb}
-use Rattle.std.proofs.lemmas.Bool.{or_cases, or_right, and_parts, and_from, eqb-true, cases_Bool, cases_lt, cond-true, cond-false, false≢true, ne_eqb}
+use Rattle.std.proofs.lemmas.Bool.{or_cases, or_right, and_parts, eqb-true, cases_Bool, cases_lt, cond-true, cond-false, false≢true, ne_eqb}
 use Rattle.std.proofs.lemmas.Option.{slice_get-map}
 use Rattle.std.specs.List.{slice_get}
 use Rattle.spl_terms.specs.declared.clause.Clause.{Clause}

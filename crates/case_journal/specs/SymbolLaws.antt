@@ -1,5 +1,5 @@
 -- Laws that carry proofs, and no definitions that a reader must believe: each symbol of the ledger is one of the input.
-use Rattle.std.specs.Prelude.{remove, fold, take, drop, ◌||◌}
+use Rattle.std.specs.Prelude.{remove, fold, take, drop}
 use Rattle.std.proofs.Common.{◌≡◌, ℕ, zero, suc, ◌+◌, ◌-◌, inl, inr, Bool, true, false, cond, not, ◌&&◌, List, [], ◌∷◌, ◌++◌, length, map, Option, Some, None, option_map, option_and_then, refl, sym, ◌∙◌, ap, subst, arith}
 use Rattle.std.proofs.lemmas.Bool.{and_parts, and_from, cases_lt}
 use Rattle.std.proofs.lemmas.List.{length-map}
@@ -14,22 +14,22 @@ use Rattle.spl_terms.specs.declared.clause.Part.{Part}
 use Rattle.spl_terms.specs.declared.clause.Part.TheVariants.{Constraint, Antecedent, Succedent}
 use Rattle.spl_terms.specs.declared.clause.Clause.{Clause}
 use Rattle.spl_terms.specs.Terms.{replace}
-use Rattle.spl_terms.specs.Clauses.{atoms_of, is_of_sort, replace_in_atom, replace_in, is_same, added, distinct, at_lists, number_in, in_order}
+use Rattle.spl_terms.specs.Clauses.{atoms_of, is_of_sort, replace_in_atom, replace_in, added, distinct, at_lists, number_in, in_order}
 use Rattle.spl_terms.proofs.TermLemmas.{Each, term_induction, fold-Var, fold-App}
 use Rattle.spl_terms.proofs.NumberLemmas.{replace-Var, replace-App}
 use Rattle.spl_truth.specs.Truth.{entry, apply}
 use Rattle.dep_sets.specs.declared.deps.Assumption.{Assumption}
 use Rattle.dep_sets.specs.Assumptions.{united}
-use Rattle.clause_parts.specs.Parts.{Parted, marked, part_by, constraint_marks, antecedent_marks, succedent_marks, left_marks, parted_by, parts_of, as_true, as_false, negation, negated_atom}
+use Rattle.clause_parts.specs.Parts.{Parted, marked, part_by, constraint_marks, antecedent_marks, succedent_marks, left_marks, parted_by, parts_of, as_true, as_false, negated_atom}
 use Rattle.proof_steps.specs.declared.step.Statement.{Statement}
 use Rattle.proof_steps.specs.declared.step.Line.{Line}
-use Rattle.proof_steps.specs.Steps.{numbered, when, fits, without, joined, resolvent, may_resolve, resolved, resolution, of_one, of_two, of_three, from_two, states, side_of, assumed, assumption_of, closes, case_both, conclude, ground_resolve}
-use Rattle.proof_steps.specs.Checked.{stated, IsConclusion}
+use Rattle.proof_steps.specs.Steps.{numbered, when, fits, without, joined, resolvent, may_resolve, resolved, resolution, of_one, of_two, of_three, from_two, states, side_of, assumed, assumption_of, case_both, conclude}
+use Rattle.proof_steps.specs.Checked.{stated}
 use Rattle.case_journal.specs.declared.event.Entry.{Entry}
 use Rattle.case_journal.specs.declared.event.Event.{Event}
 use Rattle.case_journal.specs.declared.event.Event.TheVariants.{Publish, Split}
-use Rattle.case_journal.specs.Journal.{Setting, input_line, input_lines, lines_of, ledger}
-use Rattle.case_journal.specs.Legal.{assume, case_step, IsAsked, IsLegalJournal, IsPublishable, IsSplittable}
+use Rattle.case_journal.specs.Journal.{Setting, lines_of, ledger}
+use Rattle.case_journal.specs.Legal.{IsAsked, IsLegalJournal, IsPublishable, IsSplittable}
 use Rattle.case_journal.specs.Symbols.{SymbolTest, passes_step, term_passes, atom_passes, clause_passes, rule_terms, line_passes}
 use Rattle.case_journal.specs.ListLaws.{get_left, get_right}
 use Rattle.case_journal.specs.LedgerLaws.{IsAssume, steps_assume, input_line_at}

@@ -1,5 +1,5 @@
 -- Which symbols stand where. A test is asked of a symbol with whether it stands in a term and with how many arguments.
-use Rattle.std.specs.Prelude.{ℕ, Bool, true, false, ◌&&◌, List, [], ◌∷◌, ◌++◌, length}
+use Rattle.std.specs.Prelude.{ℕ, Bool, true, false, ◌&&◌, List, [], ◌++◌, length}
 use Rattle.std.specs.List.{list_all}
 use Rattle.spl_terms.specs.declared.term.Symbol.{Symbol}
 use Rattle.spl_terms.specs.declared.term.Term.{Term, Term-F, fold-Term}

@@ -1,10 +1,10 @@
 -- The loop of a merge, and the last place of a path.
-use Rattle.std.proofs.Common.{◌≡◌, ℕ, ◌+◌, ◌-◌, ◌<◌, ◌≤◌, ◌⊎◌, inl, inr, Bool, true, false, not, cond, ◌||◌, ◌&&◌, List, [], ◌∷◌, ◌++◌, length, take, drop, get_or, zero, suc, filter, refl, sym, ap, ◌∙◌, subst, arith, add-one, add-zero, zero-add, drop-cons, append_assoc, append-nil, length-drop, Some, None}
+use Rattle.std.proofs.Common.{◌≡◌, ℕ, ◌+◌, ◌-◌, ◌<◌, ◌≤◌, ◌⊎◌, inl, inr, Bool, true, false, List, [], ◌∷◌, ◌++◌, length, take, drop, get_or, zero, suc, refl, sym, ap, ◌∙◌, subst, arith, add-one, add-zero, zero-add, drop-cons, append_assoc, append-nil, length-drop, Some, None}
 use Rattle.std.proofs.lemmas.List.{take_all, drop_all}
 use mir.Val.{bool_byte}
 use Rattle.dep_sets.specs.declared.deps.Assumption.{Assumption}
-use Rattle.dep_sets.specs.Assumptions.{is_same_assumption, is_before, IsBefore, IsAscending, contains_assumption, with_assumption, united, without_assumption, place_after, deepest_place}
-use Rattle.dep_sets.specs.SetLaws.{AllAfter, after_trans, ascending_after, ascending_tail, ascending_cons, with_front, with_later, with_after, with_ascending, with_contains, united_after, united_ascending, united_contains, united_none, united_front, merge_left, merge_right, merge_both, without_ascending, length-without, without_contains}
+use Rattle.dep_sets.specs.Assumptions.{is_same_assumption, is_before, IsAscending, contains_assumption, united, place_after, deepest_place}
+use Rattle.dep_sets.specs.SetLaws.{ascending_tail, united_ascending, united_contains, united_none, merge_left, merge_right, merge_both, without_ascending, without_contains}
 
 -- ---- the loop of a merge
 

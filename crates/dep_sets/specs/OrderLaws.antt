@@ -1,5 +1,5 @@
 -- Laws that carry proofs, and no definitions that a reader must believe: the order of assumptions, the tests and what they say.
-use Rattle.std.proofs.Common.{◌≡◌, ◌≤◌, inl, inr, Bool, true, false, ◌&&◌, eqb, ltb, refl, sym, ◌∙◌, ap, arith, eq-eqb}
+use Rattle.std.proofs.Common.{◌≡◌, inl, inr, Bool, true, false, ◌&&◌, eqb, ltb, refl, sym, ◌∙◌, ap, arith, eq-eqb}
 use Rattle.std.proofs.lemmas.Bool.{or_cases, or_left, or_right, or_from, and_parts, and_from, cases_lt, eqb-true, ne_eqb, ltb-true, lt-ltb, le-ltb, false≢true}
 use Rattle.dep_sets.specs.declared.deps.Assumption.{Assumption}
 use Rattle.dep_sets.specs.Assumptions.{is_same_assumption, is_before, IsBefore}

@@ -1,8 +1,7 @@
 -- Laws that carry proofs, and no definitions that a reader must believe: ascending lists of assumptions, and what the operations of sets keep and contain.
-use Rattle.std.proofs.Common.{◌≡◌, ℕ, ◌+◌, ◌-◌, ◌<◌, ◌≤◌, ◌⊎◌, inl, inr, Bool, true, false, not, cond, ◌||◌, ◌&&◌, List, [], ◌∷◌, ◌++◌, length, take, drop, get_or, zero, suc, filter, refl, sym, ap, ◌∙◌, subst, arith, add-one, add-zero, zero-add, drop-cons, append_assoc, append-nil, length-drop, Some, None}
-use Rattle.std.proofs.lemmas.List.{take_all, drop_all}
+use Rattle.std.proofs.Common.{◌≡◌, ◌-◌, ◌≤◌, inl, inr, Bool, true, false, not, cond, ◌||◌, ◌&&◌, List, [], ◌∷◌, length, suc, filter, refl, sym, ap, ◌∙◌, subst, arith}
 use Rattle.dep_sets.specs.declared.deps.Assumption.{Assumption}
-use Rattle.dep_sets.specs.Assumptions.{is_same_assumption, is_before, IsBefore, IsAscending, contains_assumption, with_assumption, united, without_assumption, place_after, deepest_place}
+use Rattle.dep_sets.specs.Assumptions.{is_same_assumption, is_before, IsBefore, IsAscending, contains_assumption, with_assumption, united, without_assumption}
 use Rattle.std.proofs.lemmas.Bool.{cases_Bool, false≢true}
 use Rattle.dep_sets.specs.OrderLaws.{no_first, no_second, is_before_true, is_before_false, is_same_false, before-is_before, before-else, same_equal, same-is_same, before_trans}
 
