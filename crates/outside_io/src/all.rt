@@ -18,8 +18,9 @@ const PIECE: usize = 65_536;
 /// # Errors
 ///
 /// `Fault` at the first read that fails, by which the source's count of faults rises by one, and at no
-/// other answer; `Memory` where there was none. Then at most `limit` bytes were read, and they are lost. `TooLong` with this limit exactly where more
-/// bytes came than it, which is found at the first byte past it.
+/// other answer; `Memory` where there was none. Then at most `limit` bytes were read, and they are
+/// lost. `TooLong` with this limit exactly where more bytes came than it, which is found at the first
+/// byte past it.
 #[tactic(auto, using(crate::proofs::Streams::stream_laws))]
 pub fn read_all<S: Source>(
     alloc: Global,
