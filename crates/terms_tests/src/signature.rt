@@ -2,6 +2,8 @@
 use dfg_tokens::is_name;
 use spl_symbols::{DeclareError, Signature};
 use spl_terms::{Kind, Symbol};
+use std::alloc::Global;
+use std::process::Abort;
 use std::test::Fail;
 
 /// The number of the symbol that has the name already; none where the answer is another.
@@ -13,8 +15,7 @@ fn first_of(answer: Result<Symbol, DeclareError>) -> Option<u32> {
 }
 
 /// A signature with symbols `c0`, `c1`, and so on.
-fn declared(rt: &HostRuntime, count: u32) -> Result<Signature, Fail> {
-    let alloc = rt.alloc();
+fn declared(rt: &impl Abort, alloc: Global, count: u32) -> Result<Signature, Fail> {
     let mut signature = Signature::new(alloc);
     for i in 0..count {
         let name = format!(in alloc; "c{i}")?;
@@ -27,7 +28,7 @@ fn declared(rt: &HostRuntime, count: u32) -> Result<Signature, Fail> {
 #[test]
 fn holds_as_many_symbols_as_allowed(rt: HostRuntime) -> Result<(), Fail> {
     let alloc = rt.alloc();
-    let mut signature = declared(&rt, 65_536)?;
+    let mut signature = declared(&rt, alloc, 65_536)?;
     assert_eq!(rt; signature.count(), 65_536);
     let last = Symbol {
         number: 65_535,
