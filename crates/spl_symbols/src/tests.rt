@@ -2,6 +2,7 @@ use super::*;
 use dfg_tokens::is_name;
 use spl_terms::{Kind, Symbol};
 use std::alloc::Global;
+use std::process::Abort;
 use std::test::Fail;
 
 fn declared(alloc: Global) -> Result<Signature, DeclareError> {
@@ -51,8 +52,7 @@ fn declares_a_name_once(rt: HostRuntime) -> Result<(), Fail> {
 }
 
 /// A signature with symbols `0`, `1`, and so on.
-fn full(rt: &HostRuntime, count: u32) -> Result<Signature, Fail> {
-    let alloc = rt.alloc();
+fn full(rt: &impl Abort, alloc: Global, count: u32) -> Result<Signature, Fail> {
     let mut signature = Signature::new(alloc);
     for i in 0..count {
         let name = format!(in alloc; "{i}")?;
@@ -69,7 +69,7 @@ fn is_full(answer: Result<Symbol, DeclareError>) -> bool {
 #[test]
 fn holds_as_many_as_allowed(rt: HostRuntime) -> Result<(), Fail> {
     let alloc = rt.alloc();
-    let mut signature = full(&rt, 65_536)?;
+    let mut signature = full(&rt, alloc, 65_536)?;
     assert_eq!(rt; signature.count(), 65_536);
     assert!(rt; is_full(signature.declare(alloc, "one_more", 0, Kind::Sort)));
     let again = signature.declare(alloc, "65535", 0, Kind::Sort);
