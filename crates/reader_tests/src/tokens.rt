@@ -1,5 +1,5 @@
 //! The tokens of a text with their places.
-use dfg_tokens::{Mark, TokenKind, Word, mark_byte, spelled, tokens_of};
+use dfg_tokens::{Mark, TokenKind, Word, is_name, mark_byte, spelled, tokens_of};
 use std::test::Fail;
 
 #[test]
@@ -29,4 +29,20 @@ fn tells_each_token_with_its_place(rt: HostRuntime) -> Result<(), Fail> {
     assert_eq!(rt; spelled(Word::Clause), b"clause".as_slice());
     assert_eq!(rt; mark_byte(Mark::OpenParenthesis), b'(');
     Ok(())
+}
+
+#[test]
+fn names_are_identifiers_and_no_reserved_words(rt: HostRuntime) {
+    let rows: [(&[u8], bool); 7] = [
+        (b"", false),
+        (b"or", false),
+        (b"equiv", false),
+        (b"a b", false),
+        (b"a-b", false),
+        (b"A_1", true),
+        (b"clause", true),
+    ];
+    for (word, wanted) in rows {
+        assert_eq!(rt; is_name(word), wanted);
+    }
 }

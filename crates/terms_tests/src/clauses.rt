@@ -1,8 +1,8 @@
 //! Clauses: their size and its limit, order, variants, and lists.
-use crate::makers::{Written, clause, symbol};
+use crate::makers::{Written, atoms, clause, symbol};
 use spl_terms::{
-    Atom, Clause, Items, Part, PushError, Term, order_of, order_stays, same_clause, symbols_of,
-    variant,
+    Atom, Clause, ClauseBuilder, Items, Part, PushError, Term, order_of, order_stays, same_clause,
+    symbols_of, variant,
 };
 use std::alloc::{AllocError, Global};
 use std::test::Fail;
@@ -43,17 +43,60 @@ fn pushed(alloc: Global, count: usize) -> Result<(u64, usize), Fail> {
     Ok((answer, full.part(Part::Antecedent).len()))
 }
 
+/// What a builder's `push` of P of so many variables answers where the clause has 4,096 symbols.
+fn built_on(alloc: Global, count: usize) -> Result<u64, Fail> {
+    let mut full = ClauseBuilder::new(alloc);
+    full.push(Part::Succedent, wide(alloc, 4095)?)?;
+    let answer = refused(full.push(Part::Succedent, wide(alloc, count)?))?;
+    Ok(answer)
+}
+
 #[test]
 fn clauses_keep_within_the_limit(rt: HostRuntime) -> Result<(), Fail> {
     let alloc = rt.alloc();
     for (count, answer) in [(4095, 0), (0, 4097), (4094, 8191), (1_500_000, 1_000_000)] {
         assert_eq!(rt; pushed(alloc, count)?, (answer, 1), "at {count}");
+        assert_eq!(rt; built_on(alloc, count)?, answer, "at {count}");
     }
     for (count, symbols, answer) in [(4095, 4096, 0), (4096, 4097, 4097)] {
         let given = wide_clause(alloc, count)?;
         assert_eq!(rt; symbols_of(&given), symbols);
         assert_eq!(rt; refused(given.numbered(alloc))?, answer);
         assert_eq!(rt; refused(given.into_numbered(alloc))?, answer);
+        assert_eq!(rt;
+            symbols_of(&wide_clause(alloc, count)?.into_ordered(alloc)?),
+            symbols
+        );
+    }
+    Ok(())
+}
+
+/// How many atoms are left of these, where a builder and `push_atom` agree.
+fn distinct(alloc: Global, text: &[u8]) -> Result<usize, Fail> {
+    let mut builder = ClauseBuilder::new(alloc);
+    let mut plain = Clause::new(alloc);
+    for atom in atoms(alloc, text)?.as_slice() {
+        builder.push(Part::Succedent, atom.copy(alloc)?)?;
+        plain.push_atom(Part::Succedent, atom.copy(alloc)?)?;
+    }
+    let built = builder.finish();
+    Ok(if same_clause(&built, &plain) {
+        built.succedent.len()
+    } else {
+        0
+    })
+}
+
+#[test]
+fn repeated_atoms_are_dropped(rt: HostRuntime) -> Result<(), Fail> {
+    // more than eight atoms, of which the later ones are found by their hashes
+    let rows: [(&[u8], usize); 3] = [
+        (b"P0=01P0=10", 2),
+        (b"P0P1P2P3P4P5P6P7=01P8=10P8P0", 10),
+        (b"P0P1P2P3P4P5P6P7P8P9PaPbQaQb=ab=baPg0Pg0Q0", 17),
+    ];
+    for (text, count) in rows {
+        assert_eq!(rt; distinct(rt.alloc(), text)?, count);
     }
     Ok(())
 }
