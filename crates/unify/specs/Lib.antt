@@ -2,4 +2,5 @@ pub mod Below
 pub mod Bindings
 pub mod Matches
 pub mod Solving
+pub mod Standing
 pub mod Fitting

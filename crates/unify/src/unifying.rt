@@ -7,6 +7,7 @@ ghost use Rattle.spl_truth.specs.Unifiers.{entries_below, unifier, HasVariablesB
 ghost use Rattle.unify.specs.Below.{EquationsBelow};
 ghost use Rattle.unify.specs.Bindings.{bound_to, substitution, IsTriangular};
 ghost use Rattle.unify.specs.Solving.{Eliminated, Progressed, Settled, outcome};
+ghost use Rattle.unify.specs.Standing.{StandForUnifier};
 
 use crate::bindings::Bindings;
 use crate::equations::Equations;
@@ -168,22 +169,46 @@ fn applied_entries<'a>(
     Ok(entries)
 }
 
-/// What the equations lead to, with an entry for each variable below `vars`. The only error is want of memory.
+/// The bindings that solve the equations, if there are any. The only error is want of memory.
 fn solution<'a>(
     alloc: Global,
     equations: &mut Equations<'a>,
     vars: u32,
-) -> Result<Option<Subst>, AllocError>
+) -> Result<Option<Bindings<'a>>, AllocError>
     requires { EquationsBelow vars equations.old }
-    ensures leads { IfOk result (λ found. Leads Var equations.old (option_map (λ s. entry s.terms) found)) }
-    ensures as_many { IfOk result (λ found. IfSome found (λ s. length s.terms ≡ vars)) }
+    ensures leads { IfOk result (λ found. Leads Var equations.old (option_map (λ b. substitution b.1) found)) }
+    ensures triangular { IfOk result (λ found. IfSome found (λ b. (b.0 ≡ vars) × IsTriangular b.0 b.1)) }
 {
     let mut bindings = Bindings::new(alloc, vars)?;
     if !solve(&mut bindings, equations)? {
         return Ok(None);
     }
-    let terms = applied_entries(alloc, &bindings, vars)?;
-    Ok(Some(Subst { terms }))
+    Ok(Some(bindings))
+}
+
+/// The most general unifier of a and b as bindings of the variables below `vars`, before anything is copied: its
+/// entries can be exponentially longer than the terms. None exactly where there is no unifier. The only error is want
+/// of memory.
+pub fn unify_bound<'a>(
+    alloc: Global,
+    a: &'a Term,
+    b: &'a Term,
+    vars: u32,
+) -> Result<Option<Bindings<'a>>, AllocError>
+    requires a_below { HasVariablesBelow vars a.now }
+    requires b_below { HasVariablesBelow vars b.now }
+    ensures exact { IfOk result (λ found. MatchOption found (unifier vars a.now b.now ≡ None) (StandForUnifier vars a.now b.now)) }
+    ensures steps { IfOk result (λ found. Leads Var ((a.now, b.now) ∷ []) (option_map (λ b. substitution b.1) found)) }
+    ensures general { IfOk result (λ found. MatchOption found (HasNoUnifier a.now b.now) (λ u. IsMostGeneral a.now b.now (substitution u.1))) }
+{
+    laws::steps_lead_to_unifier();
+    laws::unifier_is_most_general();
+    if !fits(a, b) {
+        return Ok(None);
+    }
+    let mut equations = Equations::new(alloc);
+    equations.push(a, b)?;
+    solution(alloc, &mut equations, vars)
 }
 
 /// The most general unifier of a and b by the rules for lists of equations (Robinson 1965; Martelli and Montanari
@@ -196,13 +221,33 @@ pub fn unify(alloc: Global, a: &Term, b: &Term, vars: u32) -> Result<Option<Subs
     ensures steps { IfOk result (λ found. Leads Var ((a.now, b.now) ∷ []) (option_map (λ s. entry s.terms) found)) }
     ensures general { IfOk result (λ found. MatchOption found (HasNoUnifier a.now b.now) (λ s. IsMostGeneral a.now b.now (entry s.terms))) }
 {
+    let Some(bindings) = unify_bound(alloc, a, b, vars)? else {
+        return Ok(None);
+    };
+    let terms = applied_entries(alloc, &bindings, vars)?;
+    Ok(Some(Subst { terms }))
+}
+
+/// The same for lists of arguments, as bindings: what `unify_bound` answers for any one symbol applied to the left ones
+/// and to the right ones.
+pub fn unify_arguments_bound<'a>(
+    alloc: Global,
+    left: &'a [Term],
+    right: &'a [Term],
+    vars: u32,
+) -> Result<Option<Bindings<'a>>, AllocError>
+    requires left_below { HaveVariablesBelow vars left.now }
+    requires right_below { HaveVariablesBelow vars right.now }
+    ensures exact { (head : Symbol) → IfOk result (λ found. MatchOption found (unifier vars (App head left.now) (App head right.now) ≡ None) (StandForUnifier vars (App head left.now) (App head right.now))) }
+    ensures general { (head : Symbol) → IfOk result (λ found. MatchOption found (HasNoUnifier (App head left.now) (App head right.now)) (λ u. IsMostGeneral (App head left.now) (App head right.now) (substitution u.1))) }
+{
     laws::steps_lead_to_unifier();
     laws::unifier_is_most_general();
-    if !fits(a, b) {
+    if !all_fit(left, right) {
         return Ok(None);
     }
     let mut equations = Equations::new(alloc);
-    equations.push(a, b)?;
+    equations.push_arguments(left, right)?;
     solution(alloc, &mut equations, vars)
 }
 
@@ -219,12 +264,9 @@ pub fn unify_arguments(
     ensures exact { (head : Symbol) → IfOk result (λ found. option_map (λ s. s.terms) found ≡ unifier vars (App head left.now) (App head right.now)) }
     ensures general { (head : Symbol) → IfOk result (λ found. MatchOption found (HasNoUnifier (App head left.now) (App head right.now)) (λ s. IsMostGeneral (App head left.now) (App head right.now) (entry s.terms))) }
 {
-    laws::steps_lead_to_unifier();
-    laws::unifier_is_most_general();
-    if !all_fit(left, right) {
+    let Some(bindings) = unify_arguments_bound(alloc, left, right, vars)? else {
         return Ok(None);
-    }
-    let mut equations = Equations::new(alloc);
-    equations.push_arguments(left, right)?;
-    solution(alloc, &mut equations, vars)
+    };
+    let terms = applied_entries(alloc, &bindings, vars)?;
+    Ok(Some(Subst { terms }))
 }
