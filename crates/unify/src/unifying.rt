@@ -12,7 +12,7 @@ ghost use Rattle.unify.specs.Standing.{StandForUnifier};
 use crate::bindings::Bindings;
 use crate::equations::Equations;
 use crate::fitting::{all_fit, fits};
-use crate::triangular::{dereferenced, occurs, push_applied};
+use crate::triangular::{dereferenced, occurs};
 use spl_terms::{Items, Symbol, Term};
 use spl_truth::{Subst, laws};
 use std::alloc::{AllocError, Global};
@@ -148,7 +148,7 @@ fn push_entry<'a>(
     ensures { OnOk result (entries.new ≡ entries.old ++ substitution bindings.now.1 variable ∷ []) }
 {
     match bindings.get(variable) {
-        Some(term) => push_applied(alloc, bindings, term, entries),
+        Some(term) => entries.push(bindings.applied(alloc, term)?),
         None => entries.push(Term::Var(variable)),
     }
 }
