@@ -189,6 +189,13 @@ size_at_arguments made t top f ts sl is same_list same =
 pub occurs_at_variable : (vars : ℕ) (made : List (ℕ × Term)) → IsTriangular vars made → (x : ℕ) (t : Term) (v : ℕ) → t ≡ Var v → IsFree made t → occurs x (replace (substitution made) t) ≡ (x == v)
 occurs_at_variable vars made h x t v is free = ap (occurs x) (stays_variable vars made h t v is free) ∙ occurs-Var x v
 
+pub occurs_at_bound : (vars : ℕ) (made : List (ℕ × Term)) → IsTriangular vars made → (x v : ℕ) (t top : Term) → bound_to made v ≡ Some t → replace (substitution made) top ≡ replace (substitution made) t → occurs x (replace (substitution made) top) ≡ occurs x (substitution made v)
+occurs_at_bound vars made h x v t top e same = ap (occurs x) (same ∙ sym (looked_up vars made h v t e))
+
+pub occurs_at_unbound : (vars : ℕ) (made : List (ℕ × Term)) → IsTriangular vars made → (x : ℕ) (t : Term) (v : ℕ) → t ≡ Var v → bound_to made v ≡ None → occurs x (replace (substitution made) t) ≡ (x == v)
+occurs_at_unbound vars made h x t v is unbound =
+    ap (occurs x) (ap (replace (substitution made)) is ∙ replace-Var (substitution made) v ∙ (stands vars made h).1 v unbound) ∙ occurs-Var x v
+
 any-map : (x : ℕ) (made : List (ℕ × Term)) (ts : List Term) → list_any (occurs x) (map (replace (substitution made)) ts) ≡ list_any (λ t. occurs x (replace (substitution made) t)) ts
 any-map x made [] = refl
 any-map x made (t ∷ ts) = ap (λ b. occurs x (replace (substitution made) t) || b) (any-map x made ts)

@@ -4,3 +4,4 @@ pub mod Matches
 pub mod Solving
 pub mod Standing
 pub mod Fitting
+pub mod Marks

@@ -6,6 +6,7 @@ mod bindings;
 mod equations;
 mod fitting;
 mod matching;
+mod occurring;
 mod triangular;
 mod unifying;
 

@@ -1,8 +1,6 @@
 //! Terms seen through bindings that refer to one another.
 ghost use Rattle.std.specs.Prelude.{◌≡◌, min, map, sum_by, IfOk};
-ghost use Rattle.std.specs.List.{list_any};
 ghost use Rattle.spl_terms.specs.Terms.{term_symbols, replace};
-ghost use Rattle.spl_truth.specs.Unifiers.{occurs};
 ghost use Rattle.unify.specs.Below.{IsBelow};
 ghost use Rattle.unify.specs.Bindings.{substitution, IsFree, IsTriangular};
 
@@ -25,31 +23,6 @@ pub(crate) fn dereferenced<'a>(bindings: &Bindings<'a>, term: &'a Term) -> &'a T
         }
     }
     term
-}
-
-/// Whether the variable occurs in the term with the bindings applied.
-#[cycle(occurring)]
-pub(crate) fn occurs<'a>(bindings: &Bindings<'a>, variable: u32, term: &'a Term) -> bool
-    requires { IsTriangular bindings.now.0 bindings.now.1 }
-    ensures { result ≡ occurs variable (replace (substitution bindings.now.1) term.now) }
-{
-    match dereferenced(bindings, term) {
-        Term::Var(other) => variable == *other,
-        Term::App(_, args) => occurs_in(bindings, variable, args.as_slice()),
-    }
-}
-
-#[cycle(occurring)]
-fn occurs_in<'a>(bindings: &Bindings<'a>, variable: u32, terms: &'a [Term]) -> bool
-    requires { IsTriangular bindings.now.0 bindings.now.1 }
-    ensures { result ≡ list_any (λ t. occurs variable (replace (substitution bindings.now.1) t)) terms.now }
-{
-    for term in terms {
-        if occurs(bindings, variable, term) {
-            return true;
-        }
-    }
-    false
 }
 
 #[cycle(applying)]

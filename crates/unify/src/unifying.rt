@@ -12,7 +12,8 @@ ghost use Rattle.unify.specs.Standing.{StandForUnifier};
 use crate::bindings::Bindings;
 use crate::equations::Equations;
 use crate::fitting::{all_fit, fits};
-use crate::triangular::{dereferenced, occurs};
+use crate::occurring::occurs;
+use crate::triangular::dereferenced;
 use spl_terms::{Items, Symbol, Term};
 use spl_truth::{Subst, laws};
 use std::alloc::{AllocError, Global};
@@ -47,6 +48,7 @@ fn same_head(symbol: Symbol, args: &[Term], other: Symbol, others: &[Term]) -> b
 
 /// Binds an unbound variable to the term, unless it occurs there.
 fn eliminate<'a>(
+    alloc: Global,
     bindings: &mut Bindings<'a>,
     variable: u32,
     term: &'a Term,
@@ -57,7 +59,7 @@ fn eliminate<'a>(
     ensures eliminated { IfOk result (λ progress. Eliminated progress variable term.now bindings.old.1 bindings.new.1) }
     ensures as_many { bindings.new.0 ≡ bindings.old.0 }
 {
-    if occurs(bindings, variable, term) {
+    if occurs(alloc, bindings, variable, term)? {
         return Ok(Progress::Failed);
     }
     bindings.bind(variable, term)?;
@@ -66,6 +68,7 @@ fn eliminate<'a>(
 
 /// Takes one equation: skips it, binds a variable, puts the equations of its arguments in front, or fails.
 fn take_equation<'a>(
+    alloc: Global,
     bindings: &mut Bindings<'a>,
     equations: &mut Equations<'a>,
     left: &'a Term,
@@ -83,10 +86,10 @@ fn take_equation<'a>(
             if is_variable(right, *variable) {
                 return Ok(Progress::Reduced);
             }
-            eliminate(bindings, *variable, right)
+            eliminate(alloc, bindings, *variable, right)
         }
         Term::App(symbol, args) => match right {
-            Term::Var(variable) => eliminate(bindings, *variable, left),
+            Term::Var(variable) => eliminate(alloc, bindings, *variable, left),
             Term::App(other, others) => {
                 let args = args.as_slice();
                 let others = others.as_slice();
@@ -102,6 +105,7 @@ fn take_equation<'a>(
 
 /// Takes equations until a variable is bound, none is left, or there is no unifier.
 fn bind_next<'a>(
+    alloc: Global,
     bindings: &mut Bindings<'a>,
     equations: &mut Equations<'a>,
 ) -> Result<Progress, AllocError>
@@ -111,7 +115,7 @@ fn bind_next<'a>(
     ensures as_many { bindings.new.0 ≡ bindings.old.0 }
 {
     while let Some((left, right)) = equations.pop() {
-        match take_equation(bindings, equations, left, right)? {
+        match take_equation(alloc, bindings, equations, left, right)? {
             Progress::Reduced => {}
             Progress::Bound => return Ok(Progress::Bound),
             Progress::Failed => return Ok(Progress::Failed),
@@ -121,7 +125,11 @@ fn bind_next<'a>(
 }
 
 /// Whether the equations have a solution, which the bindings then stand for.
-fn solve<'a>(bindings: &mut Bindings<'a>, equations: &mut Equations<'a>) -> Result<bool, AllocError>
+fn solve<'a>(
+    alloc: Global,
+    bindings: &mut Bindings<'a>,
+    equations: &mut Equations<'a>,
+) -> Result<bool, AllocError>
     requires triangular { IsTriangular bindings.old.0 bindings.old.1 }
     requires below { EquationsBelow bindings.old.0 equations.old }
     ensures leads { IfOk result (λ is_solved. Leads (substitution bindings.old.1) equations.old (outcome is_solved bindings.new.1)) }
@@ -129,7 +137,7 @@ fn solve<'a>(bindings: &mut Bindings<'a>, equations: &mut Equations<'a>) -> Resu
     ensures as_many { bindings.new.0 ≡ bindings.old.0 }
 {
     loop {
-        match bind_next(bindings, equations)? {
+        match bind_next(alloc, bindings, equations)? {
             Progress::Reduced => return Ok(true),
             Progress::Failed => return Ok(false),
             Progress::Bound => {}
@@ -180,7 +188,7 @@ fn solution<'a>(
     ensures triangular { IfOk result (λ found. IfSome found (λ b. (b.0 ≡ vars) × IsTriangular b.0 b.1)) }
 {
     let mut bindings = Bindings::new(alloc, vars)?;
-    if !solve(&mut bindings, equations)? {
+    if !solve(alloc, &mut bindings, equations)? {
         return Ok(None);
     }
     Ok(Some(bindings))
