@@ -6,16 +6,15 @@ use Rattle.spl_terms.specs.declared.term.Symbol.{Symbol}
 use Rattle.spl_terms.specs.declared.term.Term.{Term, Var, App}
 use Rattle.spl_terms.specs.Terms.{replace}
 use Rattle.spl_terms.proofs.TermLemmas.{symbol_eq-refl, and-parts}
-use Rattle.spl_truth.specs.declared.replace.Subst.{Subst}
 use Rattle.spl_truth.specs.Truth.{entry}
 use Rattle.spl_truth.specs.Unifiers.{solution, entries_below, unifier, HasVariablesBelow, HaveVariablesBelow, HasNoUnifier, IsMostGeneral, Leads}
 use Rattle.spl_truth.proofs.Replacing.{replace-App}
 use Rattle.spl_truth.proofs.Occurring.{replace-themselves}
-use Rattle.spl_truth.proofs.Entries.{length-entries_below, entry-entries_below, entries_below-entry}
+use Rattle.spl_truth.proofs.Entries.{entry-entries_below}
 use Rattle.unify.specs.Below.{EquationsBelow}
 use Rattle.unify.specs.Fitting.{fits, all_fit}
 use Rattle.unify.specs.Bindings.{substitution, IsTriangular}
-use Rattle.unify.specs.Solving.{outcome}
+use Rattle.unify.specs.Standing.{StandForUnifier}
 use Rattle.unify.proofs.BelowLemmas.{below_from, below_to, are_below_from, application_below, zip_below}
 use Rattle.unify.proofs.TriangularLemmas.{stands}
 use Rattle.unify.proofs.FittingLemmas.{fits-App-App, misfits, none_general}
@@ -30,14 +29,6 @@ entries_stand vars made terms tri is = ap entry is ∙ entry-entries_below vars 
     past v ge true e = absurd (let lt = ltb-true v vars e in omega arith)
     past v ge false e = e
 
-pub solution_leads : (vars : ℕ) (start : ℕ × List (ℕ × Term)) (made : List (ℕ × Term)) (es : List (Term × Term)) (terms : List Term) → start ≡ (vars, []) → IsTriangular start.0 made → terms ≡ entries_below vars (substitution made) → (solved : Bool) → solved ≡ true → Leads (substitution start.1) es (outcome solved made) → Leads Var es (Some (entry terms))
-solution_leads vars start made es terms begins tri is solved yes' h' =
-    let h : Leads (substitution start.1) es (Some (substitution made)) = subst (λ b. Leads (substitution start.1) es (outcome b made)) yes' h' in
-    subst (λ u. Leads Var es (Some u)) (sym (entries_stand vars made terms (subst (λ (b : ℕ × List (ℕ × Term)). IsTriangular b.0 made) begins tri) is)) (subst (λ (b : ℕ × List (ℕ × Term)). Leads (substitution b.1) es (Some (substitution made))) begins h)
-
-pub as_many : (vars : ℕ) (made : List (ℕ × Term)) (terms : List Term) → terms ≡ entries_below vars (substitution made) → length terms ≡ vars
-as_many vars made terms is = ap length is ∙ length-entries_below vars (substitution made)
-
 -- ---- from the solution to the unifier
 
 pub both : {T E : Type 0} (r : Result T E) (P Q R : T → Type 0) → ((x : T) → P x → Q x → R x) → IfOk r P → IfOk r Q → IfOk r R
@@ -51,20 +42,39 @@ StepsLaw = (vars : ℕ) (a b : Term) → HasVariablesBelow vars a → HasVariabl
 abbrev pub GeneralLaw : Type 0
 GeneralLaw = (vars : ℕ) (a b : Term) → HasVariablesBelow vars a → HasVariablesBelow vars b → MatchOption (unifier vars a b) (HasNoUnifier a b) (λ entries. IsMostGeneral a b (entry entries))
 
-module _ (vars : ℕ) (a b : Term) (below_a : HasVariablesBelow vars a) (below_b : HasVariablesBelow vars b) (law : StepsLaw) where
-  pub exact : (found : Option Subst) → Leads Var ((a, b) ∷ []) (option_map (λ (s : Subst). entry s.terms) found) → IfSome found (λ s. length s.terms ≡ vars) → option_map (λ (s : Subst). s.terms) found ≡ unifier vars a b
-  exact None h many = sym (ap (option_map (entries_below vars)) ((law vars a b below_a below_b None).0 h))
-  exact (Some s) h many =
-      ap Some (sym (entries_below-entry vars s.terms many))
-      ∙ sym (ap (option_map (entries_below vars)) ((law vars a b below_a below_b (Some (entry s.terms))).0 h))
+module _ (vars : ℕ) (a b : Term) (below_a : HasVariablesBelow vars a) (below_b : HasVariablesBelow vars b) where
+  pub found_exact : StepsLaw → (found : Option (ℕ × List (ℕ × Term))) → Leads Var ((a, b) ∷ []) (option_map (λ (u : ℕ × List (ℕ × Term)). substitution u.1) found) → IfSome found (λ u. (u.0 ≡ vars) × IsTriangular u.0 u.1) → MatchOption found (unifier vars a b ≡ None) (StandForUnifier vars a b)
+  found_exact law None h k = ap (option_map (entries_below vars)) ((law vars a b below_a below_b None).0 h)
+  found_exact law (Some u) h k = record {
+    as_many = k.0;
+    triangular = k.1;
+    exact = ap (option_map (entries_below vars)) ((law vars a b below_a below_b (Some (substitution u.1))).0 h);
+  }
 
-pub as_found : (a b : Term) (found : Option Subst) → MatchOption (option_map (λ (s : Subst). s.terms) found) (HasNoUnifier a b) (λ entries. IsMostGeneral a b (entry entries)) → MatchOption found (HasNoUnifier a b) (λ s. IsMostGeneral a b (entry s.terms))
-as_found a b None h = h
-as_found a b (Some s) h = h
+  pub found_general : GeneralLaw → (found : Option (ℕ × List (ℕ × Term))) → MatchOption found (unifier vars a b ≡ None) (StandForUnifier vars a b) → MatchOption found (HasNoUnifier a b) (λ u. IsMostGeneral a b (substitution u.1))
+  found_general law None e = subst (λ o. MatchOption o (HasNoUnifier a b) (λ entries. IsMostGeneral a b (entry entries))) e (law vars a b below_a below_b)
+  found_general law (Some u) stand =
+      subst (IsMostGeneral a b) (entries_stand vars u.1 _ (subst (λ n. IsTriangular n u.1) stand.as_many stand.triangular) refl)
+      (subst (λ o. MatchOption o (HasNoUnifier a b) (λ entries. IsMostGeneral a b (entry entries))) stand.exact (law vars a b below_a below_b))
 
-pub general : (vars : ℕ) (a b : Term) → HasVariablesBelow vars a → HasVariablesBelow vars b → GeneralLaw → (found : Option Subst) → option_map (λ (s : Subst). s.terms) found ≡ unifier vars a b → MatchOption found (HasNoUnifier a b) (λ s. IsMostGeneral a b (entry s.terms))
-general vars a b below_a below_b law found is =
-    as_found a b found (subst (λ o. MatchOption o (HasNoUnifier a b) (λ entries. IsMostGeneral a b (entry entries))) (sym is) (law vars a b below_a below_b))
+-- ---- the entries that are written from the bindings
+
+module _ (vars : ℕ) (a b : Term) (found : Option (ℕ × List (ℕ × Term))) (u : ℕ × List (ℕ × Term)) (is : found ≡ Some u) (stand_or_none : MatchOption found (unifier vars a b ≡ None) (StandForUnifier vars a b)) where
+  pub found_stand : StandForUnifier vars a b u
+  found_stand = subst (λ o. MatchOption o (unifier vars a b ≡ None) (StandForUnifier vars a b)) is stand_or_none
+
+  pub written_same : (terms : List Term) → terms ≡ entries_below vars (substitution u.1) → substitution u.1 ≡ entry terms
+  written_same terms written = sym (entries_stand vars u.1 terms (subst (λ n. IsTriangular n u.1) found_stand.as_many found_stand.triangular) written)
+
+  pub written_steps : (terms : List Term) → terms ≡ entries_below vars (substitution u.1) → Leads Var ((a, b) ∷ []) (option_map (λ (x : ℕ × List (ℕ × Term)). substitution x.1) found) → Leads Var ((a, b) ∷ []) (Some (entry terms))
+  written_steps terms written leads =
+      subst (λ s. Leads Var ((a, b) ∷ []) (Some s)) (written_same terms written)
+      (subst (λ (o : Option (ℕ × List (ℕ × Term))). Leads Var ((a, b) ∷ []) (option_map (λ (x : ℕ × List (ℕ × Term)). substitution x.1) o)) is leads)
+
+  pub written_general : (terms : List Term) → terms ≡ entries_below vars (substitution u.1) → MatchOption found (HasNoUnifier a b) (λ x. IsMostGeneral a b (substitution x.1)) → IsMostGeneral a b (entry terms)
+  written_general terms written general =
+      subst (IsMostGeneral a b) (written_same terms written)
+      (subst (λ o. MatchOption o (HasNoUnifier a b) (λ x. IsMostGeneral a b (substitution x.1))) is general)
 
 pub one_equation : (vars : ℕ) (a b : Term) (first es : List (Term × Term)) → HasVariablesBelow vars a → HasVariablesBelow vars b → first ≡ [] → es ≡ (a, b) ∷ first → EquationsBelow vars es
 one_equation vars a b first es below_a below_b none is =

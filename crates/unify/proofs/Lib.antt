@@ -5,3 +5,4 @@ pub mod SolvingLemmas
 pub mod AnswerLemmas
 pub mod MatchLemmas
 pub mod FittingLemmas
+pub mod MarkLemmas

@@ -1,14 +1,14 @@
 -- Bindings as they were made, and what they stand for when they are applied to each other.
-use Rattle.std.proofs.Common.{◌≡◌, ℕ, zero, suc, ◌<◌, nat_lt, Bool, true, false, ◌||◌, ◌==◌, if◌then◌else◌, eq-eqb, List, [], ◌∷◌, map, sum_by, Option, Some, None, refl, sym, ap, subst, ◌∙◌, arith}
+use Rattle.std.proofs.Common.{◌≡◌, ℕ, ◌+◌, zero, suc, ◌<◌, nat_lt, Bool, true, false, ◌||◌, ◌==◌, if◌then◌else◌, eq-eqb, List, [], ◌∷◌, map, sum_by, Option, Some, None, refl, sym, ap, subst, ◌∙◌, arith}
 use Rattle.std.specs.List.{list_any}
 use Rattle.std.proofs.lemmas.Bool.{eqb-true, lt-ltb, false≢true}
 use Rattle.spl_terms.specs.declared.term.Symbol.{Symbol}
 use Rattle.spl_terms.specs.declared.term.Term.{Term, Var, App}
 use Rattle.spl_terms.specs.declared.term.Term.TheViews.{outs-Var, outs-App}
 use Rattle.spl_terms.specs.Terms.{term_symbols, replace}
-use Rattle.spl_terms.proofs.TermLemmas.{term_induction}
 use Rattle.spl_truth.specs.Unifiers.{occurs, single, bind}
-use Rattle.spl_truth.proofs.Replacing.{replace-Var, replace-App, replace-replace}
+use Rattle.spl_terms.specs.TermLaws.{term_induction, term_symbols-Var, replace-Var, replace-App}
+use Rattle.spl_truth.proofs.Replacing.{replace-replace, symbols-replace-App}
 use Rattle.spl_truth.proofs.Occurring.{no_application, agree, replace-themselves, occurs-Var, occurs-App, occurs-self}
 use Rattle.spl_truth.proofs.Solving.{cap, IsWithin, IsFine, CanBind, cap-inside, within-replace, instance_at, single-apart, bind_fine, bound_at}
 use Rattle.spl_truth.proofs.Unifying.{at_first}
@@ -177,10 +177,24 @@ size made t = term_symbols (replace (substitution made) t)
 abbrev pub sizes : List (ℕ × Term) → List Term → ℕ
 sizes made = sum_by (size made)
 
+pub size_at_variable : (vars : ℕ) (made : List (ℕ × Term)) → IsTriangular vars made → (t top : Term) (v : ℕ) → top ≡ Var v → IsFree made top → replace (substitution made) top ≡ replace (substitution made) t → size made t ≡ 1
+size_at_variable vars made h t top v is free same = ap term_symbols (sym same ∙ stays_variable vars made h top v is free) ∙ term_symbols-Var v
+
+pub size_at_arguments : (made : List (ℕ × Term)) (t top : Term) (f : Symbol) (ts sl : List Term) → top ≡ App f ts → sl ≡ ts → replace (substitution made) top ≡ replace (substitution made) t → size made t ≡ sizes made sl + 1
+size_at_arguments made t top f ts sl is same_list same =
+    ap term_symbols (sym same ∙ ap (replace (substitution made)) is) ∙ symbols-replace-App (substitution made) f ts ∙ ap (λ l. sizes made l + 1) (sym same_list)
+
 -- ---- occurring with the bindings applied
 
 pub occurs_at_variable : (vars : ℕ) (made : List (ℕ × Term)) → IsTriangular vars made → (x : ℕ) (t : Term) (v : ℕ) → t ≡ Var v → IsFree made t → occurs x (replace (substitution made) t) ≡ (x == v)
 occurs_at_variable vars made h x t v is free = ap (occurs x) (stays_variable vars made h t v is free) ∙ occurs-Var x v
+
+pub occurs_at_bound : (vars : ℕ) (made : List (ℕ × Term)) → IsTriangular vars made → (x v : ℕ) (t top : Term) → bound_to made v ≡ Some t → replace (substitution made) top ≡ replace (substitution made) t → occurs x (replace (substitution made) top) ≡ occurs x (substitution made v)
+occurs_at_bound vars made h x v t top e same = ap (occurs x) (same ∙ sym (looked_up vars made h v t e))
+
+pub occurs_at_unbound : (vars : ℕ) (made : List (ℕ × Term)) → IsTriangular vars made → (x : ℕ) (t : Term) (v : ℕ) → t ≡ Var v → bound_to made v ≡ None → occurs x (replace (substitution made) t) ≡ (x == v)
+occurs_at_unbound vars made h x t v is unbound =
+    ap (occurs x) (ap (replace (substitution made)) is ∙ replace-Var (substitution made) v ∙ (stands vars made h).1 v unbound) ∙ occurs-Var x v
 
 any-map : (x : ℕ) (made : List (ℕ × Term)) (ts : List Term) → list_any (occurs x) (map (replace (substitution made)) ts) ≡ list_any (λ t. occurs x (replace (substitution made) t)) ts
 any-map x made [] = refl

@@ -2,4 +2,6 @@ pub mod Below
 pub mod Bindings
 pub mod Matches
 pub mod Solving
+pub mod Standing
 pub mod Fitting
+pub mod Marks

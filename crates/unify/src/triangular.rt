@@ -1,8 +1,6 @@
 //! Terms seen through bindings that refer to one another.
-ghost use Rattle.std.specs.Prelude.{◌≡◌, [], ◌∷◌, ◌++◌, map, IfOk, OnOk};
-ghost use Rattle.std.specs.List.{list_any};
-ghost use Rattle.spl_terms.specs.Terms.{replace};
-ghost use Rattle.spl_truth.specs.Unifiers.{occurs};
+ghost use Rattle.std.specs.Prelude.{◌≡◌, min, map, sum_by, IfOk};
+ghost use Rattle.spl_terms.specs.Terms.{term_symbols, replace};
 ghost use Rattle.unify.specs.Below.{IsBelow};
 ghost use Rattle.unify.specs.Bindings.{substitution, IsFree, IsTriangular};
 
@@ -27,52 +25,20 @@ pub(crate) fn dereferenced<'a>(bindings: &Bindings<'a>, term: &'a Term) -> &'a T
     term
 }
 
-/// Whether the variable occurs in the term with the bindings applied.
-#[cycle(occurring)]
-pub(crate) fn occurs<'a>(bindings: &Bindings<'a>, variable: u32, term: &'a Term) -> bool
-    requires { IsTriangular bindings.now.0 bindings.now.1 }
-    ensures { result ≡ occurs variable (replace (substitution bindings.now.1) term.now) }
-{
-    match dereferenced(bindings, term) {
-        Term::Var(other) => variable == *other,
-        Term::App(_, args) => occurs_in(bindings, variable, args.as_slice()),
-    }
-}
-
-#[cycle(occurring)]
-fn occurs_in<'a>(bindings: &Bindings<'a>, variable: u32, terms: &'a [Term]) -> bool
-    requires { IsTriangular bindings.now.0 bindings.now.1 }
-    ensures { result ≡ list_any (λ t. occurs variable (replace (substitution bindings.now.1) t)) terms.now }
-{
-    for term in terms {
-        if occurs(bindings, variable, term) {
-            return true;
-        }
-    }
-    false
-}
-
-/// Adds the term with the bindings applied to the end of a list. The only error is want of memory.
 #[cycle(applying)]
-pub(crate) fn push_applied<'a>(
-    alloc: Global,
-    bindings: &Bindings<'a>,
-    term: &'a Term,
-    made: &mut Items<Term>,
-) -> Result<(), AllocError>
+fn applied<'a>(alloc: Global, bindings: &Bindings<'a>, term: &'a Term) -> Result<Term, AllocError>
     requires { IsTriangular bindings.now.0 bindings.now.1 }
-    ensures { OnOk result (made.new ≡ made.old ++ replace (substitution bindings.now.1) term.now ∷ []) }
+    ensures { IfOk result (λ made. made ≡ replace (substitution bindings.now.1) term.now) }
 {
     match dereferenced(bindings, term) {
-        Term::Var(variable) => made.push(Term::Var(*variable)),
+        Term::Var(variable) => Ok(Term::Var(*variable)),
         Term::App(symbol, args) => {
             let args = all_applied(alloc, bindings, args.as_slice())?;
-            made.push(Term::App(*symbol, args))
+            Ok(Term::App(*symbol, args))
         }
     }
 }
 
-/// The terms with the bindings applied, with no room to spare. The only error is want of memory.
 #[cycle(applying)]
 fn all_applied<'a>(
     alloc: Global,
@@ -84,7 +50,75 @@ fn all_applied<'a>(
 {
     let mut made = Items::with_room(alloc, terms.len())?;
     for term in terms {
-        push_applied(alloc, bindings, term, &mut made)?;
+        made.push(applied(alloc, bindings, term)?)?;
     }
     Ok(made)
+}
+
+#[cycle(counting)]
+fn symbols_up_to<'a>(bindings: &Bindings<'a>, term: &'a Term, limit: u64) -> u64
+    requires { IsTriangular bindings.now.0 bindings.now.1 }
+    ensures { result ≡ min (term_symbols (replace (substitution bindings.now.1) term.now)) limit }
+{
+    if limit == 0 {
+        return 0;
+    }
+    match dereferenced(bindings, term) {
+        Term::Var(_) => 1,
+        Term::App(_, args) => symbols_in_up_to(bindings, args.as_slice(), limit - 1) + 1,
+    }
+}
+
+/// It stops at the first term with which the limit is reached.
+#[cycle(counting)]
+fn symbols_in_up_to<'a>(bindings: &Bindings<'a>, terms: &'a [Term], limit: u64) -> u64
+    requires { IsTriangular bindings.now.0 bindings.now.1 }
+    ensures { result ≡ min (sum_by (λ t. term_symbols (replace (substitution bindings.now.1) t)) terms.now) limit }
+{
+    let mut count: u64 = 0;
+    for term in terms {
+        if count >= limit {
+            return limit;
+        }
+        count += symbols_up_to(bindings, term, limit - count);
+    }
+    count
+}
+
+impl<'a> Bindings<'a> {
+    /// The term with the bindings applied, in a copy of its own with no room to spare. It can be exponentially larger
+    /// than the terms: see `instance_symbols` first. The only error is want of memory.
+    pub fn applied(&self, alloc: Global, term: &'a Term) -> Result<Term, AllocError>
+        requires { IsTriangular self.now.0 self.now.1 }
+        ensures { IfOk result (λ made. made ≡ replace (substitution self.now.1) term.now) }
+    {
+        applied(alloc, self, term)
+    }
+
+    /// The terms with the bindings applied, as `applied` makes each of them. The only error is want of memory.
+    pub fn all_applied(&self, alloc: Global, terms: &'a [Term]) -> Result<Items<Term>, AllocError>
+        requires { IsTriangular self.now.0 self.now.1 }
+        ensures { IfOk result (λ made. made ≡ map (replace (substitution self.now.1)) terms.now) }
+    {
+        all_applied(alloc, self, terms)
+    }
+
+    /// How many symbols the term has with the bindings applied, or the limit where there are as many or more: a
+    /// variable counts 1, an application 1 and its arguments. Nothing is built, and counting stops once the limit is
+    /// reached.
+    pub fn instance_symbols(&self, term: &'a Term, limit: u64) -> u64
+        requires { IsTriangular self.now.0 self.now.1 }
+        ensures { result ≡ min (term_symbols (replace (substitution self.now.1) term.now)) limit }
+    {
+        symbols_up_to(self, term, limit)
+    }
+
+    /// How many symbols the terms have together with the bindings applied, or the limit where there are as many or
+    /// more, as `instance_symbols` counts them.
+    pub fn instance_symbols_in_terms(&self, terms: &'a [Term], limit: u64) -> u64
+        requires { IsTriangular self.now.0 self.now.1 }
+        ensures { result ≡ min (sum_by (λ t. term_symbols (replace (substitution self.now.1) t)) terms.now) limit }
+    {
+        symbols_in_up_to(self, terms, limit)
+    }
 }

@@ -7,11 +7,13 @@ ghost use Rattle.spl_truth.specs.Unifiers.{entries_below, unifier, HasVariablesB
 ghost use Rattle.unify.specs.Below.{EquationsBelow};
 ghost use Rattle.unify.specs.Bindings.{bound_to, substitution, IsTriangular};
 ghost use Rattle.unify.specs.Solving.{Eliminated, Progressed, Settled, outcome};
+ghost use Rattle.unify.specs.Standing.{StandForUnifier};
 
 use crate::bindings::Bindings;
 use crate::equations::Equations;
 use crate::fitting::{all_fit, fits};
-use crate::triangular::{dereferenced, occurs, push_applied};
+use crate::occurring::occurs;
+use crate::triangular::dereferenced;
 use spl_terms::{Items, Symbol, Term};
 use spl_truth::{Subst, laws};
 use std::alloc::{AllocError, Global};
@@ -46,6 +48,7 @@ fn same_head(symbol: Symbol, args: &[Term], other: Symbol, others: &[Term]) -> b
 
 /// Binds an unbound variable to the term, unless it occurs there.
 fn eliminate<'a>(
+    alloc: Global,
     bindings: &mut Bindings<'a>,
     variable: u32,
     term: &'a Term,
@@ -56,7 +59,7 @@ fn eliminate<'a>(
     ensures eliminated { IfOk result (λ progress. Eliminated progress variable term.now bindings.old.1 bindings.new.1) }
     ensures as_many { bindings.new.0 ≡ bindings.old.0 }
 {
-    if occurs(bindings, variable, term) {
+    if occurs(alloc, bindings, variable, term)? {
         return Ok(Progress::Failed);
     }
     bindings.bind(variable, term)?;
@@ -65,6 +68,7 @@ fn eliminate<'a>(
 
 /// Takes one equation: skips it, binds a variable, puts the equations of its arguments in front, or fails.
 fn take_equation<'a>(
+    alloc: Global,
     bindings: &mut Bindings<'a>,
     equations: &mut Equations<'a>,
     left: &'a Term,
@@ -82,10 +86,10 @@ fn take_equation<'a>(
             if is_variable(right, *variable) {
                 return Ok(Progress::Reduced);
             }
-            eliminate(bindings, *variable, right)
+            eliminate(alloc, bindings, *variable, right)
         }
         Term::App(symbol, args) => match right {
-            Term::Var(variable) => eliminate(bindings, *variable, left),
+            Term::Var(variable) => eliminate(alloc, bindings, *variable, left),
             Term::App(other, others) => {
                 let args = args.as_slice();
                 let others = others.as_slice();
@@ -101,6 +105,7 @@ fn take_equation<'a>(
 
 /// Takes equations until a variable is bound, none is left, or there is no unifier.
 fn bind_next<'a>(
+    alloc: Global,
     bindings: &mut Bindings<'a>,
     equations: &mut Equations<'a>,
 ) -> Result<Progress, AllocError>
@@ -110,7 +115,7 @@ fn bind_next<'a>(
     ensures as_many { bindings.new.0 ≡ bindings.old.0 }
 {
     while let Some((left, right)) = equations.pop() {
-        match take_equation(bindings, equations, left, right)? {
+        match take_equation(alloc, bindings, equations, left, right)? {
             Progress::Reduced => {}
             Progress::Bound => return Ok(Progress::Bound),
             Progress::Failed => return Ok(Progress::Failed),
@@ -120,7 +125,11 @@ fn bind_next<'a>(
 }
 
 /// Whether the equations have a solution, which the bindings then stand for.
-fn solve<'a>(bindings: &mut Bindings<'a>, equations: &mut Equations<'a>) -> Result<bool, AllocError>
+fn solve<'a>(
+    alloc: Global,
+    bindings: &mut Bindings<'a>,
+    equations: &mut Equations<'a>,
+) -> Result<bool, AllocError>
     requires triangular { IsTriangular bindings.old.0 bindings.old.1 }
     requires below { EquationsBelow bindings.old.0 equations.old }
     ensures leads { IfOk result (λ is_solved. Leads (substitution bindings.old.1) equations.old (outcome is_solved bindings.new.1)) }
@@ -128,7 +137,7 @@ fn solve<'a>(bindings: &mut Bindings<'a>, equations: &mut Equations<'a>) -> Resu
     ensures as_many { bindings.new.0 ≡ bindings.old.0 }
 {
     loop {
-        match bind_next(bindings, equations)? {
+        match bind_next(alloc, bindings, equations)? {
             Progress::Reduced => return Ok(true),
             Progress::Failed => return Ok(false),
             Progress::Bound => {}
@@ -147,7 +156,7 @@ fn push_entry<'a>(
     ensures { OnOk result (entries.new ≡ entries.old ++ substitution bindings.now.1 variable ∷ []) }
 {
     match bindings.get(variable) {
-        Some(term) => push_applied(alloc, bindings, term, entries),
+        Some(term) => entries.push(bindings.applied(alloc, term)?),
         None => entries.push(Term::Var(variable)),
     }
 }
@@ -168,22 +177,46 @@ fn applied_entries<'a>(
     Ok(entries)
 }
 
-/// What the equations lead to, with an entry for each variable below `vars`. The only error is want of memory.
+/// The bindings that solve the equations, if there are any. The only error is want of memory.
 fn solution<'a>(
     alloc: Global,
     equations: &mut Equations<'a>,
     vars: u32,
-) -> Result<Option<Subst>, AllocError>
+) -> Result<Option<Bindings<'a>>, AllocError>
     requires { EquationsBelow vars equations.old }
-    ensures leads { IfOk result (λ found. Leads Var equations.old (option_map (λ s. entry s.terms) found)) }
-    ensures as_many { IfOk result (λ found. IfSome found (λ s. length s.terms ≡ vars)) }
+    ensures leads { IfOk result (λ found. Leads Var equations.old (option_map (λ b. substitution b.1) found)) }
+    ensures triangular { IfOk result (λ found. IfSome found (λ b. (b.0 ≡ vars) × IsTriangular b.0 b.1)) }
 {
     let mut bindings = Bindings::new(alloc, vars)?;
-    if !solve(&mut bindings, equations)? {
+    if !solve(alloc, &mut bindings, equations)? {
         return Ok(None);
     }
-    let terms = applied_entries(alloc, &bindings, vars)?;
-    Ok(Some(Subst { terms }))
+    Ok(Some(bindings))
+}
+
+/// The most general unifier of a and b as bindings of the variables below `vars`, before anything is copied: its
+/// entries can be exponentially longer than the terms. None exactly where there is no unifier. The only error is want
+/// of memory.
+pub fn unify_bound<'a>(
+    alloc: Global,
+    a: &'a Term,
+    b: &'a Term,
+    vars: u32,
+) -> Result<Option<Bindings<'a>>, AllocError>
+    requires a_below { HasVariablesBelow vars a.now }
+    requires b_below { HasVariablesBelow vars b.now }
+    ensures exact { IfOk result (λ found. MatchOption found (unifier vars a.now b.now ≡ None) (StandForUnifier vars a.now b.now)) }
+    ensures steps { IfOk result (λ found. Leads Var ((a.now, b.now) ∷ []) (option_map (λ b. substitution b.1) found)) }
+    ensures general { IfOk result (λ found. MatchOption found (HasNoUnifier a.now b.now) (λ u. IsMostGeneral a.now b.now (substitution u.1))) }
+{
+    laws::steps_lead_to_unifier();
+    laws::unifier_is_most_general();
+    if !fits(a, b) {
+        return Ok(None);
+    }
+    let mut equations = Equations::new(alloc);
+    equations.push(a, b)?;
+    solution(alloc, &mut equations, vars)
 }
 
 /// The most general unifier of a and b by the rules for lists of equations (Robinson 1965; Martelli and Montanari
@@ -196,13 +229,33 @@ pub fn unify(alloc: Global, a: &Term, b: &Term, vars: u32) -> Result<Option<Subs
     ensures steps { IfOk result (λ found. Leads Var ((a.now, b.now) ∷ []) (option_map (λ s. entry s.terms) found)) }
     ensures general { IfOk result (λ found. MatchOption found (HasNoUnifier a.now b.now) (λ s. IsMostGeneral a.now b.now (entry s.terms))) }
 {
+    let Some(bindings) = unify_bound(alloc, a, b, vars)? else {
+        return Ok(None);
+    };
+    let terms = applied_entries(alloc, &bindings, vars)?;
+    Ok(Some(Subst { terms }))
+}
+
+/// The same for lists of arguments, as bindings: what `unify_bound` answers for any one symbol applied to the left ones
+/// and to the right ones.
+pub fn unify_arguments_bound<'a>(
+    alloc: Global,
+    left: &'a [Term],
+    right: &'a [Term],
+    vars: u32,
+) -> Result<Option<Bindings<'a>>, AllocError>
+    requires left_below { HaveVariablesBelow vars left.now }
+    requires right_below { HaveVariablesBelow vars right.now }
+    ensures exact { (head : Symbol) → IfOk result (λ found. MatchOption found (unifier vars (App head left.now) (App head right.now) ≡ None) (StandForUnifier vars (App head left.now) (App head right.now))) }
+    ensures general { (head : Symbol) → IfOk result (λ found. MatchOption found (HasNoUnifier (App head left.now) (App head right.now)) (λ u. IsMostGeneral (App head left.now) (App head right.now) (substitution u.1))) }
+{
     laws::steps_lead_to_unifier();
     laws::unifier_is_most_general();
-    if !fits(a, b) {
+    if !all_fit(left, right) {
         return Ok(None);
     }
     let mut equations = Equations::new(alloc);
-    equations.push(a, b)?;
+    equations.push_arguments(left, right)?;
     solution(alloc, &mut equations, vars)
 }
 
@@ -219,12 +272,9 @@ pub fn unify_arguments(
     ensures exact { (head : Symbol) → IfOk result (λ found. option_map (λ s. s.terms) found ≡ unifier vars (App head left.now) (App head right.now)) }
     ensures general { (head : Symbol) → IfOk result (λ found. MatchOption found (HasNoUnifier (App head left.now) (App head right.now)) (λ s. IsMostGeneral (App head left.now) (App head right.now) (entry s.terms))) }
 {
-    laws::steps_lead_to_unifier();
-    laws::unifier_is_most_general();
-    if !all_fit(left, right) {
+    let Some(bindings) = unify_arguments_bound(alloc, left, right, vars)? else {
         return Ok(None);
-    }
-    let mut equations = Equations::new(alloc);
-    equations.push_arguments(left, right)?;
-    solution(alloc, &mut equations, vars)
+    };
+    let terms = applied_entries(alloc, &bindings, vars)?;
+    Ok(Some(Subst { terms }))
 }

@@ -4,8 +4,8 @@ use Rattle.unify.specs.Bindings.{substitution}
 use Rattle.unify.proofs.TriangularLemmas.{size, sizes}
 use Rattle.unify.proofs.triangular.+applying.Given as goal
 
-abbrev pub decreases-push_applied : goal.decreases-push_applied
-decreases-push_applied l = 2 * size l.bindings.now.1 l.term.now
+abbrev pub decreases-applied : goal.decreases-applied
+decreases-applied l = 2 * size l.bindings.now.1 l.term.now
 
 abbrev pub decreases-all_applied : goal.decreases-all_applied
 decreases-all_applied l = 2 * sizes l.bindings.now.1 l.terms.now + 1

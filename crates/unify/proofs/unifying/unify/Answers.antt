@@ -1,32 +1,8 @@
-use Rattle.std.proofs.Common.{sym, ◌∙◌}
-use Rattle.std.proofs.lemmas.Result.{IfOk-weaker}
-use Rattle.unify.proofs.AnswerLemmas.{both, exact, general, one_equation, one_leads, misfit_exact, misfit_leads}
-use Rattle.unify.proofs.FittingLemmas.{misfits}
+use Rattle.unify.proofs.AnswerLemmas.{written_steps, written_general}
 use Rattle.unify.proofs.unifying.unify.Goals as goal
 
-pub solution-requires : goal.solution-requires
-solution-requires c = one_equation _ _ _ _ _ c.requires.a_below c.requires.b_below c.new-equations.ensures c.in_ok-push.ensures
-
-is_unifier : goal.returns-clause-exact
-is_unifier c =
-    both c.solution.result _ _ _
-    (λ found leads many. exact c.args.vars c.args.a.now c.args.b.now c.requires.a_below c.requires.b_below c.steps_lead_to_unifier.ensures found (one_leads _ _ _ _ _ c.new-equations.ensures c.in_ok-push.ensures leads) many)
-    c.solution.ensures.leads c.solution.ensures.as_many
-
-pub returns-clause-exact : goal.returns-clause-exact
-returns-clause-exact c = is_unifier c
+pub returns-clause-steps : goal.returns-clause-steps
+returns-clause-steps c = written_steps c.args.vars c.args.a.now c.args.b.now _ _ c.in-Some.is c.in_ok-bindings.ensures.exact _ c.in_ok-terms.ensures c.in_ok-bindings.ensures.steps
 
 pub returns-clause-general : goal.returns-clause-general
-returns-clause-general c =
-    IfOk-weaker c.solution.result _ _
-    (λ found is. general c.args.vars c.args.a.now c.args.b.now c.requires.a_below c.requires.b_below c.unifier_is_most_general.ensures found is)
-    (is_unifier c)
-
-pub returns-then-not-fits-clause-exact : goal.returns-then-not-fits-clause-exact
-returns-then-not-fits-clause-exact c = misfit_exact c.args.vars c.args.a.now c.args.b.now c.requires.a_below c.requires.b_below c.unifier_is_most_general.ensures (sym c.fits.ensures ∙ c.if-not-fits.true)
-
-pub returns-then-not-fits-clause-steps : goal.returns-then-not-fits-clause-steps
-returns-then-not-fits-clause-steps c = misfit_leads c.args.vars c.args.a.now c.args.b.now c.requires.a_below c.requires.b_below c.unifier_is_most_general.ensures (sym c.fits.ensures ∙ c.if-not-fits.true) c.steps_lead_to_unifier.ensures
-
-pub returns-then-not-fits-clause-general : goal.returns-then-not-fits-clause-general
-returns-then-not-fits-clause-general c = misfits c.args.a.now c.args.b.now (sym c.fits.ensures ∙ c.if-not-fits.true)
+returns-clause-general c = written_general c.args.vars c.args.a.now c.args.b.now _ _ c.in-Some.is c.in_ok-bindings.ensures.exact _ c.in_ok-terms.ensures c.in_ok-bindings.ensures.general

@@ -1,37 +1,22 @@
-use Rattle.std.proofs.Common.{sym, ◌∙◌}
-use Rattle.std.proofs.lemmas.Result.{IfOk-weaker}
+use Rattle.std.proofs.Common.{MatchOption, subst}
+use Rattle.spl_terms.specs.declared.term.Kind.TheVariants.{Function}
+use Rattle.spl_terms.specs.declared.term.Symbol.{Symbol}
 use Rattle.spl_terms.specs.declared.term.Term.{App}
-use Rattle.unify.proofs.AnswerLemmas.{both, exact, general, application_has, arguments_equations, arguments_lead, misfit_exact, arguments_apart, as_many_fit}
-use Rattle.unify.proofs.FittingLemmas.{misfits}
+use Rattle.spl_truth.specs.Unifiers.{HasNoUnifier, IsMostGeneral}
+use Rattle.unify.specs.Bindings.{substitution}
+use Rattle.unify.proofs.AnswerLemmas.{found_stand, written_general}
 use Rattle.unify.proofs.unifying.unify_arguments.Goals as goal
 
-pub returns-then-not-all_fit-clause-exact : goal.returns-then-not-all_fit-clause-exact
-returns-then-not-all_fit-clause-exact c = λ head.
-    misfit_exact c.args.vars (App head c.args.left.now) (App head c.args.right.now) (application_has _ head _ c.requires.left_below) (application_has _ head _ c.requires.right_below) c.unifier_is_most_general.ensures
-    (arguments_apart head c.args.left.now c.args.right.now _ c.all_fit.ensures c.if-not-all_fit.true)
+any_symbol : Symbol
+any_symbol = record { number = 0; kind = Function }
 
-pub returns-then-not-all_fit-clause-general : goal.returns-then-not-all_fit-clause-general
-returns-then-not-all_fit-clause-general c = λ head.
-    misfits (App head c.args.left.now) (App head c.args.right.now) (arguments_apart head c.args.left.now c.args.right.now _ c.all_fit.ensures c.if-not-all_fit.true)
+pub applied_entries-requires : goal.applied_entries-requires
+applied_entries-requires c = (found_stand c.args.vars (App any_symbol c.args.left.now) (App any_symbol c.args.right.now) _ _ c.in-Some.is (c.in_ok-bindings.ensures.exact any_symbol)).triangular
 
-pub push_arguments-requires : goal.push_arguments-requires
-push_arguments-requires c = as_many_fit c.args.left.now c.args.right.now (sym c.all_fit.ensures ∙ c.if-not-all_fit.false)
-
-pub solution-requires : goal.solution-requires
-solution-requires c = arguments_equations _ _ _ _ _ c.requires.left_below c.requires.right_below c.new-equations.ensures c.in_ok-push_arguments.ensures
-
-is_unifier : goal.returns-clause-exact
-is_unifier c = λ head.
-    both c.solution.result _ _ _
-    (λ found leads many. exact c.args.vars (App head c.args.left.now) (App head c.args.right.now) (application_has _ head _ c.requires.left_below) (application_has _ head _ c.requires.right_below) c.steps_lead_to_unifier.ensures found
-    (arguments_lead head c.args.left.now c.args.right.now _ _ _ (as_many_fit c.args.left.now c.args.right.now (sym c.all_fit.ensures ∙ c.if-not-all_fit.false)) c.new-equations.ensures c.in_ok-push_arguments.ensures leads) many)
-    c.solution.ensures.leads c.solution.ensures.as_many
-
-pub returns-clause-exact : goal.returns-clause-exact
-returns-clause-exact c = is_unifier c
+pub returns-in_default-clause-general : goal.returns-in_default-clause-general
+returns-in_default-clause-general c = λ head.
+    subst (λ o. MatchOption o (HasNoUnifier (App head c.args.left.now) (App head c.args.right.now)) (λ u. IsMostGeneral (App head c.args.left.now) (App head c.args.right.now) (substitution u.1))) c.in_default.is (c.in_ok-bindings.ensures.general head)
 
 pub returns-clause-general : goal.returns-clause-general
 returns-clause-general c = λ head.
-    IfOk-weaker c.solution.result _ _
-    (λ found is. general c.args.vars (App head c.args.left.now) (App head c.args.right.now) (application_has _ head _ c.requires.left_below) (application_has _ head _ c.requires.right_below) c.unifier_is_most_general.ensures found is)
-    (is_unifier c head)
+    written_general c.args.vars (App head c.args.left.now) (App head c.args.right.now) _ _ c.in-Some.is (c.in_ok-bindings.ensures.exact head) _ c.in_ok-terms.ensures (c.in_ok-bindings.ensures.general head)
