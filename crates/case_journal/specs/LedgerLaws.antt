@@ -128,4 +128,3 @@ ledger_concluded s (e ∷ past) small legal k l h =
           let now = event_concluded s past e.by e.event legal.0.asked j l got in
           subst (λ xs. IsConclusion s.input (stated xs) l) (sym (take_past ls more j) ∙ ap (λ n. take n (ls ++ more)) at) now
     ]
-
