@@ -5,11 +5,9 @@ use Rattle.std.proofs.lemmas.Bool.{ltb-true}
 use Rattle.spl_terms.specs.declared.term.Symbol.{Symbol}
 use Rattle.spl_terms.specs.declared.term.Term.{Term, Var, App}
 use Rattle.spl_terms.specs.Terms.{replace}
-use Rattle.spl_terms.proofs.TermLemmas.{symbol_eq-refl, and-parts}
+use Rattle.spl_terms.specs.TermLaws.{and-parts, symbol_eq-refl, replace-App, replace-itself}
 use Rattle.spl_truth.specs.Truth.{entry}
 use Rattle.spl_truth.specs.Unifiers.{solution, entries_below, unifier, HasVariablesBelow, HaveVariablesBelow, HasNoUnifier, IsMostGeneral, Leads}
-use Rattle.spl_truth.proofs.Replacing.{replace-App}
-use Rattle.spl_truth.proofs.Occurring.{replace-themselves}
 use Rattle.spl_truth.proofs.Entries.{entry-entries_below}
 use Rattle.unify.specs.Below.{EquationsBelow}
 use Rattle.unify.specs.Fitting.{fits, all_fit}
@@ -94,7 +92,7 @@ arguments_equations vars ss ts first es h k none is =
 
 pub arguments_lead : (f : Symbol) (ss ts : List Term) (first es : List (Term × Term)) (r : Option (ℕ → Term)) → length ss ≡ length ts → first ≡ [] → es ≡ zip ss ts ++ first → Leads Var es r → Leads Var ((App f ss, App f ts) ∷ []) r
 arguments_lead f ss ts first es r many none is h =
-    split_leads Var (λ t. replace-themselves (replace Var t)) (App f ss) (App f ts) f f ss ts (replace-App Var f ss) (replace-App Var f ts) (symbol_eq-refl f) many [] r
+    split_leads Var (λ t. replace-itself (replace Var t)) (App f ss) (App f ts) f f ss ts (replace-App Var f ss) (replace-App Var f ts) (symbol_eq-refl f) many [] r
     (subst (λ l. Leads Var l r) (is ∙ ap (λ l. zip ss ts ++ l) none) h)
 
 -- ---- terms that don't fit

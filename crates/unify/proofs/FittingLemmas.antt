@@ -6,11 +6,10 @@ use Rattle.spl_terms.specs.declared.term.Symbol.{Symbol}
 use Rattle.spl_terms.specs.declared.term.Term.{Term, Var, App}
 use Rattle.spl_terms.specs.declared.term.Term.TheViews.{outs-Var, outs-App}
 use Rattle.spl_terms.specs.Terms.{symbol_eq, all_pass, replace}
-use Rattle.spl_terms.proofs.TermLemmas.{Each, term_induction, fold-Var, fold-App, term_symbols-App, term_symbols-positive, symbol_eq-refl}
+use Rattle.spl_terms.specs.TermLaws.{symbol_eq-refl, Each, term_induction, fold-Var, fold-App, term_symbols-App, term_symbols-positive, replace-App}
 use Rattle.spl_truth.specs.Truth.{entry}
 use Rattle.spl_truth.specs.Matching.{HasNoMatcher}
 use Rattle.spl_truth.specs.Unifiers.{IsUnifier, HasNoUnifier, IsMostGeneral}
-use Rattle.spl_truth.proofs.Replacing.{replace-App}
 use Rattle.spl_truth.proofs.Occurring.{same_arguments, same_symbols, no_application}
 use Rattle.unify.specs.Fitting.{may_be, fitting_step, fits, all_fit, may_become, covering_step, covers, all_cover}
 

@@ -7,7 +7,7 @@ use Rattle.spl_terms.specs.declared.term.Symbol.{Symbol}
 use Rattle.spl_terms.specs.declared.term.Term.{Term, Var, App, out-Term}
 use Rattle.spl_terms.specs.declared.term.Term.TheViews.{outs-Var, outs-App}
 use Rattle.spl_terms.specs.Terms.{symbol_eq, term_eq, terms_eq, term_symbols, replace}
-use Rattle.spl_terms.proofs.TermLemmas.{term_symbols-positive, term_eq-true, term_eq-refl, term_eq-App-App, terms_eq-same, symbol_eq-true, and-parts}
+use Rattle.spl_terms.specs.TermLaws.{and-parts, symbol_eq-true, term_symbols-positive, term_eq-true, term_eq-refl, term_eq-App-App, terms_eq-same}
 use Rattle.spl_truth.specs.Unifiers.{occurs, single, bind, Action, trivial, eliminate, decompose, clash, action_of_variable, action_apart, action, Leads, ends, skips, binds, splits, fails, left_symbols}
 use Rattle.spl_truth.proofs.Replacing.{replace-replace, symbols-replace-App}
 use Rattle.spl_truth.proofs.Occurring.{no_application, occurs-self}

@@ -7,9 +7,9 @@ use Rattle.spl_terms.specs.declared.term.Term.{Term, Var, App}
 use Rattle.spl_terms.specs.declared.term.Term.TheViews.{outs-Var, outs-App}
 use Rattle.spl_terms.specs.Terms.{term_symbols, replace}
 use Rattle.spl_truth.specs.Unifiers.{occurs, single, bind}
-use Rattle.spl_terms.specs.TermLaws.{term_induction, term_symbols-Var, replace-Var, replace-App}
+use Rattle.spl_terms.specs.TermLaws.{term_induction, term_symbols-Var, replace-Var, replace-App, replace-itself}
 use Rattle.spl_truth.proofs.Replacing.{replace-replace, symbols-replace-App}
-use Rattle.spl_truth.proofs.Occurring.{no_application, agree, replace-themselves, occurs-Var, occurs-App, occurs-self}
+use Rattle.spl_truth.proofs.Occurring.{no_application, agree, occurs-Var, occurs-App, occurs-self}
 use Rattle.spl_truth.proofs.Solving.{cap, IsWithin, IsFine, CanBind, cap-inside, within-replace, instance_at, single-apart, bind_fine, bound_at}
 use Rattle.spl_truth.proofs.Unifying.{at_first}
 use Rattle.unify.specs.Below.{IsBelow}
@@ -20,7 +20,7 @@ abbrev pub under : ℕ → ℕ → Bool
 under vars v = nat_lt v vars
 
 pub within_below : (vars : ℕ) (t : Term) → IsBelow vars t → IsWithin (under vars) t
-within_below vars t h = agree (cap (under vars)) Var t (λ x o. cap-inside (under vars) x (lt-ltb x vars (h x o))) ∙ replace-themselves t
+within_below vars t h = agree (cap (under vars)) Var t (λ x o. cap-inside (under vars) x (lt-ltb x vars (h x o))) ∙ replace-itself t
 
 -- ---- what the bindings stand for
 
