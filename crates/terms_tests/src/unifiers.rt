@@ -1,12 +1,12 @@
 //! Unifiers and matchers of terms over the variables 0, 1, 2, as worked out by hand.
-use crate::makers::{term, terms};
-use spl_terms::all_equal;
+use crate::makers::{symbol, term, terms};
+use spl_terms::{Items, Term, all_equal};
 use spl_truth::Subst;
 use std::alloc::{AllocError, Global};
 use std::test::Fail;
 use unify::{
     Bindings, all_cover, all_fit, covers, fits, has_variables_below, have_variables_below,
-    match_arguments, match_into, match_term, match_terms, unify, unify_arguments,
+    match_arguments, match_into, match_term, match_terms, unify, unify_arguments, unify_bound,
 };
 
 /// Whether the entries are those of the text; an empty text stands for no answer.
@@ -111,5 +111,49 @@ fn matching_goes_on_from_bindings(rt: HostRuntime) -> Result<(), Fail> {
     found.undo(0);
     assert!(rt; found.get(1).is_none());
     assert!(rt; match_terms(more.as_slice(), clashes.as_slice(), &mut found)?);
+    Ok(())
+}
+
+/// `f` of twice this variable.
+fn twice(alloc: Global, variable: u32) -> Result<Term, AllocError> {
+    let mut args = Items::new(alloc);
+    args.push(Term::Var(variable))?;
+    args.push(Term::Var(variable))?;
+    Ok(Term::App(symbol(b'f'), args))
+}
+
+/// A term with an argument for each variable from 1 to 60: the variable, or `f` of twice the one before it. At the end stand
+/// the variable 0 and `f` of twice the last one, where that is asked for.
+fn chain(alloc: Global, doubled: bool, closed: bool) -> Result<Term, AllocError> {
+    let mut args = Items::new(alloc);
+    for variable in 0..60 {
+        if doubled {
+            args.push(twice(alloc, variable)?)?;
+        } else {
+            args.push(Term::Var(variable + 1))?;
+        }
+    }
+    if closed {
+        args.push(if doubled {
+            twice(alloc, 60)?
+        } else {
+            Term::Var(0)
+        })?;
+    }
+    Ok(Term::App(symbol(b'h'), args))
+}
+
+#[test]
+fn chains_are_unified_at_once(rt: HostRuntime) -> Result<(), Fail> {
+    let alloc = rt.alloc();
+    // the last variable stands for a term of more symbols than 64 bits count, and a closed chain has no unifier
+    for (closed, unifies) in [(false, true), (true, false)] {
+        let left = chain(alloc, false, closed)?;
+        let right = chain(alloc, true, closed)?;
+        assert!(rt; has_variables_below(&left, 61));
+        assert!(rt; has_variables_below(&right, 61));
+        let found = unify_bound(alloc, &left, &right, 61)?;
+        assert_eq!(rt; found.is_some(), unifies);
+    }
     Ok(())
 }
