@@ -8,15 +8,16 @@ use Rattle.spl_terms.specs.Clauses.{replace_in, IsEmpty}
 use Rattle.spl_truth.specs.Truth.{is_ground, IsGroundInstance, holds, atom_eq, FollowsAt, Follows}
 use Rattle.spl_truth.proofs.Replacing.{and_parts, constant, ground-App}
 use Rattle.clause_parts.specs.Parts.{Parted, parts_of}
-use Rattle.proof_steps.specs.Steps.{joined, assumed}
-use Rattle.proof_steps.specs.Checked.{negations, side_clauses}
+use Rattle.clause_parts.specs.Sides.{SplitPart, negations, side_clauses, place_of, assumed}
+use Rattle.clause_parts.specs.SideLaws.{two_parts, side_clauses-two}
+use Rattle.proof_steps.specs.Steps.{joined}
 use Rattle.proof_steps.proofs.Steps.{some_inj}
-use Rattle.proof_steps.proofs.Options.{chosen}
+use Rattle.proof_steps.proofs.Options.{Contains-get}
 use Rattle.proof_steps.proofs.Resolution.{at_ground, empty-false}
 use Rattle.proof_steps.proofs.Cut.{cut, itself, by_cases}
 use Rattle.proof_steps.proofs.BothParts.{left_component, follows-joined, joined_turned}
-use Rattle.proof_steps.proofs.Negations.{follows-negation, contains-negated}
-use Rattle.proof_steps.proofs.Premises.{Contains-cons, Contains-cons_later, Contains-cons_cases, Contains-nil}
+use Rattle.proof_steps.proofs.Negations.{follows-negation}
+use Rattle.proof_steps.proofs.Premises.{Contains-cons_cases, Contains-nil}
 
 -- ---- what a side assumes
 
@@ -24,16 +25,16 @@ use Rattle.proof_steps.proofs.Premises.{Contains-cons, Contains-cons_later, Cont
 left_ground_is : (c : Clause) (parts : Parted) → parts_of c ≡ Some parts → parts.left_ground ≡ is_ground parts.left
 left_ground_is c parts is = let found = left_component c parts is in subst (λ (p : Parted). p.left_ground ≡ is_ground p.left) found.1 refl
 
-left_only : (parts : Parted) (x : Clause) → Contains (side_clauses 1 parts) x → parts.left ≡ x
+left_only : (parts : Parted) (x : Clause) → Contains (side_clauses 1 (two_parts parts)) x → parts.left ≡ x
 left_only parts x there =
     elim (Contains-cons_cases parts.left [] x there) [
       | inl same ↦ same
       | inr none ↦ absurd (Contains-nil x none)
     ]
 
-right_or_negated : (parts : Parted) (x : Clause) → Contains (side_clauses 2 parts) x → (parts.right ≡ x) ⊎ ((parts.left_ground ≡ true) × Contains (negations parts.left) x)
+right_or_negated : (parts : Parted) (x : Clause) → Contains (side_clauses 2 (two_parts parts)) x → (parts.right ≡ x) ⊎ ((parts.left_ground ≡ true) × Contains (negations parts.left) x)
 right_or_negated parts x there =
-    elim (Contains-cons_cases parts.right (if parts.left_ground then negations parts.left else []) x there) [
+    elim (Contains-cons_cases parts.right (if parts.left_ground then negations parts.left else []) x (subst (λ cs. Contains cs x) (side_clauses-two parts).1 there)) [
       | inl same ↦ inl same
       | inr later ↦ inr (by_test parts.left_ground later)
     ]
@@ -43,19 +44,8 @@ right_or_negated parts x there =
     by_test false h = absurd (Contains-nil x h)
 
 -- what is assumed is among the clauses of its side
-pub contains-assumed : (side : ℕ) (negated : Option ℕ) (parts : Parted) (c : Clause) → assumed side negated parts ≡ Some c → Contains (side_clauses side parts) c
-contains-assumed side None parts c e = by_tests (side == 1) (side == 2) e
-  where
-    by_tests : (a b : Bool) → (if a then Some parts.left else (if b then Some parts.right else None)) ≡ Some c → Contains (if a then parts.left ∷ [] else (if b then parts.right ∷ (if parts.left_ground then negations parts.left else []) else [])) c
-    by_tests true b f = subst (Contains (parts.left ∷ [])) (some_inj f) (Contains-cons parts.left [])
-    by_tests false true f = subst (Contains (parts.right ∷ (if parts.left_ground then negations parts.left else []))) (some_inj f) (Contains-cons parts.right (if parts.left_ground then negations parts.left else []))
-    by_tests false false f = absurd (cc)
-contains-assumed side (Some k) parts c e =
-    let test = chosen ((side == 2) && parts.left_ground) _ c e in
-    let both = and_parts (side == 2) parts.left_ground test.0 in
-    let among : Contains (side_clauses 2 parts) c =
-    Contains-cons_later parts.right (if parts.left_ground then negations parts.left else []) c (subst (λ b. Contains (if b then negations parts.left else []) c) (sym both.1) (contains-negated k parts.left c test.1)) in
-    subst (λ n. Contains (side_clauses n parts) c) (sym (eqb-true side 2 both.0)) among
+pub contains-assumed : (side : ℕ) (negated : Option ℕ) (parts : List SplitPart) (c : Clause) → assumed side negated parts ≡ Some c → Contains (side_clauses side parts) c
+contains-assumed side negated parts c e = Contains-get (side_clauses side parts) (place_of negated) c e
 
 -- ---- one side is closed
 
@@ -70,7 +60,7 @@ module _ (clauses more : List Clause) (c e : Clause) (parts : Parted) (follows :
   never assignment = empty-false (λ a. list_any (atom_eq a) assignment) (λ _. constant) e empty
 
   -- from the left part and what else there is, the empty clause; so the right part
-  pub left_closed : ((x : Clause) → Contains more x → Contains clauses x ⊎ Contains (side_clauses 1 parts) x) → Follows clauses parts.right
+  pub left_closed : ((x : Clause) → Contains more x → Contains clauses x ⊎ Contains (side_clauses 1 (two_parts parts)) x) → Follows clauses parts.right
   left_closed sides d inst = by_cases clauses more d nothing never nothing_follows back
     where
       back : (x y : Clause) → Contains more x → IsGroundInstance x y → Contains clauses x ⊎ FollowsAt clauses (joined y d)
@@ -80,7 +70,7 @@ module _ (clauses more : List Clause) (c e : Clause) (parts : Parted) (follows :
       ]
 
   -- from the right part, the negations of the left one's atoms and what else there is, the empty clause; so the left part
-  pub right_closed : ((x : Clause) → Contains more x → Contains clauses x ⊎ Contains (side_clauses 2 parts) x) → Follows clauses parts.left
+  pub right_closed : ((x : Clause) → Contains more x → Contains clauses x ⊎ Contains (side_clauses 2 (two_parts parts)) x) → Follows clauses parts.left
   right_closed sides d inst = by_cases clauses more d nothing never nothing_follows back
     where
       by_right : (x y : Clause) → IsGroundInstance x y → (parts.right ≡ x) ⊎ ((parts.left_ground ≡ true) × Contains (negations parts.left) x) → FollowsAt clauses (joined y d)
@@ -96,7 +86,7 @@ module _ (clauses more : List Clause) (c e : Clause) (parts : Parted) (follows :
 -- ---- both sides are closed
 
 -- what follows from clauses, and from a left part that follows from them, follows
-pub left_left_out : (clauses more : List Clause) (parts : Parted) (e : Clause) → Follows clauses parts.left → ((x : Clause) → Contains more x → Contains clauses x ⊎ Contains (side_clauses 1 parts) x) → Follows more e → Follows clauses e
+pub left_left_out : (clauses more : List Clause) (parts : Parted) (e : Clause) → Follows clauses parts.left → ((x : Clause) → Contains more x → Contains clauses x ⊎ Contains (side_clauses 1 (two_parts parts)) x) → Follows more e → Follows clauses e
 left_left_out clauses more parts e left sides closed d inst = cut clauses more each d (closed d inst)
   where
     each : (x : Clause) → Contains more x → Follows clauses x

@@ -9,7 +9,8 @@ use Rattle.proof_steps.specs.declared.step.Statement.{Statement}
 use Rattle.proof_steps.specs.declared.step.Rule.{Rule}
 use Rattle.proof_steps.specs.declared.step.Rule.TheVariants.{Input, Resolve, Factor, Paramodulate, Reflex, EqFactor, Assume, CaseLeft, CaseRight, CaseBoth}
 use Rattle.clause_parts.proofs.Examples.{folds, constant, a, b, holds, clause, either, parts_either, linked, parts_linked}
-use Rattle.proof_steps.specs.Steps.{states, side_of, assumed, conclude}
+use Rattle.proof_steps.specs.Steps.{states, side_of, conclude}
+use Rattle.proof_steps.specs.SplitLaws as split
 
 -- ---- the words of the examples
 
@@ -76,25 +77,25 @@ abbrev either_stated : Statement
 either_stated = states either []
 
 pub example_asm_left : gives (either_stated ∷ []) (Assume 1 None) (1 ∷ []) ≡ Some (states (clause [] [] (holds 4 a ∷ [])) (side_of 1 1 ∷ []))
-example_asm_left = ap (λ parts. option_map (λ d. states d (side_of 1 1 ∷ [])) (option_and_then (assumed 1 None) parts)) parts_either
+example_asm_left = split.assumption_of-two 1 1 None either_stated ∙ ap (λ parts. option_map (λ d. states d (side_of 1 1 ∷ [])) (option_and_then (split.assumed_of_two 1 None) parts)) parts_either
 
 pub example_asm_right : gives (either_stated ∷ []) (Assume 2 None) (1 ∷ []) ≡ Some (states (clause [] [] (holds 5 b ∷ [])) (side_of 1 2 ∷ []))
-example_asm_right = ap (λ parts. option_map (λ d. states d (side_of 1 2 ∷ [])) (option_and_then (assumed 2 None) parts)) parts_either
+example_asm_right = split.assumption_of-two 1 2 None either_stated ∙ ap (λ parts. option_map (λ d. states d (side_of 1 2 ∷ [])) (option_and_then (split.assumed_of_two 2 None) parts)) parts_either
 
 -- in the second case the left part may be assumed to be false
 pub example_asm_negated : gives (either_stated ∷ []) (Assume 2 (Some 0)) (1 ∷ []) ≡ Some (states (clause [] (holds 4 a ∷ []) []) (side_of 1 2 ∷ []))
-example_asm_negated = ap (λ parts. option_map (λ d. states d (side_of 1 2 ∷ [])) (option_and_then (assumed 2 (Some 0)) parts)) parts_either ∙ simp folds
+example_asm_negated = split.assumption_of-two 1 2 (Some 0) either_stated ∙ ap (λ parts. option_map (λ d. states d (side_of 1 2 ∷ [])) (option_and_then (split.assumed_of_two 2 (Some 0)) parts)) parts_either ∙ simp folds
 
 -- P(x) or Q(x) or R(b): the atoms of x stay together
 abbrev linked_stated : Statement
 linked_stated = states linked []
 
 pub example_asm_component : gives (linked_stated ∷ []) (Assume 1 None) (1 ∷ []) ≡ Some (states (clause [] [] (holds 4 (Var 0) ∷ holds 5 (Var 0) ∷ [])) (side_of 1 1 ∷ []))
-example_asm_component = ap (λ parts. option_map (λ d. states d (side_of 1 1 ∷ [])) (option_and_then (assumed 1 None) parts)) parts_linked
+example_asm_component = split.assumption_of-two 1 1 None linked_stated ∙ ap (λ parts. option_map (λ d. states d (side_of 1 1 ∷ [])) (option_and_then (split.assumed_of_two 1 None) parts)) parts_linked
 
 -- a left part with variables has no negation
 pub example_asm_negated_variables : gives (linked_stated ∷ []) (Assume 2 (Some 0)) (1 ∷ []) ≡ None
-example_asm_negated_variables = ap (λ parts. option_map (λ d. states d (side_of 1 2 ∷ [])) (option_and_then (assumed 2 (Some 0)) parts)) parts_linked
+example_asm_negated_variables = split.assumption_of-two 1 2 (Some 0) linked_stated ∙ ap (λ parts. option_map (λ d. states d (side_of 1 2 ∷ [])) (option_and_then (split.assumed_of_two 2 (Some 0)) parts)) parts_linked
 
 -- nothing where all succedent atoms hang together
 pub example_asm_none : gives (plain [] [] (holds 4 (Var 0) ∷ holds 5 (Var 0) ∷ []) ∷ []) (Assume 1 None) (1 ∷ []) ≡ None
@@ -105,10 +106,10 @@ abbrev closed : ℕ → Statement
 closed side = states (clause [] [] []) (side_of 1 side ∷ [])
 
 pub example_cal : gives (either_stated ∷ closed 1 ∷ []) CaseLeft (1 ∷ 2 ∷ []) ≡ Some (plain [] [] (holds 5 b ∷ []))
-example_cal = ap (option_map (λ parts. states parts.right [])) parts_either
+example_cal = split.left_closed 1 either_stated (closed 1) ∙ ap (option_map (λ parts. states parts.right [])) parts_either
 
 pub example_car : gives (either_stated ∷ closed 2 ∷ []) CaseRight (1 ∷ 2 ∷ []) ≡ Some (plain [] [] (holds 4 a ∷ []))
-example_car = ap (option_map (λ parts. states parts.left [])) parts_either
+example_car = split.right_closed 1 either_stated (closed 2) ∙ ap (option_map (λ parts. states parts.left [])) parts_either
 
 pub example_cab : gives (either_stated ∷ closed 1 ∷ closed 2 ∷ []) CaseBoth (1 ∷ 2 ∷ 3 ∷ []) ≡ Some (plain [] [] [])
 example_cab = refl

@@ -12,7 +12,7 @@ use Rattle.spl_truth.specs.Truth.{is_ground_atom, is_ground, IsGroundInstance, I
 use Rattle.spl_truth.proofs.Replacing.{and_parts, at_each, atom-replace-replace}
 use Rattle.clause_parts.specs.Parts.{as_true, as_false, negation, negated_atom}
 use Rattle.proof_steps.specs.Steps.{joined}
-use Rattle.proof_steps.specs.Checked.{negations}
+use Rattle.clause_parts.specs.Sides.{negations}
 use Rattle.proof_steps.proofs.Steps.{ground_atom, no_numbers}
 use Rattle.clause_parts.proofs.Marks.{get-front, get-behind}
 use Rattle.proof_steps.proofs.Options.{mapped, Contains-get}
@@ -137,33 +137,3 @@ module _ (left : Clause) (ground : is_ground left ≡ true) where
             let b : Atom → Bool = λ a. list_any (atom_eq a) assignment in
             either_joined b x d ∙ (λ i. truth b (sym at_x i) || truth b (sym at_d i)) ∙ negation_joined b g k c there;
       }
-
--- ---- the negation with a number is one of all
-
-pub contains-negated : (k : ℕ) (left c : Clause) → negated_atom k left ≡ Some c → Contains (negations left) c
-contains-negated k left c e =
-    let made = mapped in_order (negation k left) c e in
-    by_test (nat_lt k (length left.constraint + length left.antecedent)) refl made.0 made.1 made.2
-  where
-    trues : List Clause
-    trues = map (λ a. in_order (as_true a)) (left.constraint ++ left.antecedent)
-
-    falses : List Clause
-    falses = map (λ a. in_order (as_false a)) left.succedent
-
-    size : length (left.constraint ++ left.antecedent) ≡ length left.constraint + length left.antecedent
-    size = length-append left.constraint left.antecedent
-
-    by_test : (t : Bool) → nat_lt k (length left.constraint + length left.antecedent) ≡ t → (d : Clause) → (if t then option_map as_true (slice_get (atoms_of left) k) else option_map as_false (slice_get (atoms_of left) k)) ≡ Some d → in_order d ≡ c → Contains (negations left) c
-    by_test true is d at_d same =
-        let a = mapped as_true (slice_get (atoms_of left) k) d at_d in
-        let below : k < length (left.constraint ++ left.antecedent) = omega (arith, size, ltb-true k (length left.constraint + length left.antecedent) is) in
-        let found : slice_get (left.constraint ++ left.antecedent) k ≡ Some a.0 = sym (get-front (left.constraint ++ left.antecedent) left.succedent k below) ∙ a.1 in
-        subst (Contains (negations left)) (ap in_order a.2 ∙ same)
-        (Contains-append_left trues falses (in_order (as_true a.0)) (Contains-mapped (λ a. in_order (as_true a)) (left.constraint ++ left.antecedent) a.0 (Contains-get (left.constraint ++ left.antecedent) k a.0 found)))
-    by_test false is d at_d same =
-        let a = mapped as_false (slice_get (atoms_of left) k) d at_d in
-        let behind : length (left.constraint ++ left.antecedent) ≤ k = omega (arith, size, ltb-false k (length left.constraint + length left.antecedent) is) in
-        let found : slice_get left.succedent (k - length (left.constraint ++ left.antecedent)) ≡ Some a.0 = sym (get-behind (left.constraint ++ left.antecedent) left.succedent k behind) ∙ a.1 in
-        subst (Contains (negations left)) (ap in_order a.2 ∙ same)
-        (Contains-append_right trues falses (in_order (as_false a.0)) (Contains-mapped (λ a. in_order (as_false a)) left.succedent a.0 (Contains-get left.succedent (k - length (left.constraint ++ left.antecedent)) a.0 found)))

@@ -1,5 +1,5 @@
 -- What sets of assumptions assume: more where there are more assumptions.
-use Rattle.std.proofs.Common.{◌≡◌, ◌⊎◌, inl, inr, ℕ, zero, suc, Bool, true, false, not, ◌&&◌, ◌||◌, List, [], ◌∷◌, ◌++◌, Contains, Some, option_and_then, refl, sym, ap, subst, ◌∙◌, arith}
+use Rattle.std.proofs.Common.{◌≡◌, ◌⊎◌, inl, inr, ℕ, zero, suc, Bool, true, false, not, ◌&&◌, ◌||◌, List, [], ◌∷◌, ◌++◌, Contains, Some, option_map, option_and_then, refl, sym, ap, subst, ◌∙◌, arith}
 use Rattle.std.specs.Option.{option_map_or}
 use Rattle.std.proofs.lemmas.List.Elements.{Contains-append_left, Contains-append_right, Contains-append_cases}
 use Rattle.spl_terms.specs.declared.clause.Clause.{Clause}
@@ -10,8 +10,10 @@ use Rattle.dep_sets.specs.SetLaws.{united_contains, without_contains}
 use Rattle.proof_steps.specs.declared.step.Statement.{Statement}
 use Rattle.proof_steps.specs.declared.step.Line.{Line}
 use Rattle.clause_parts.specs.Parts.{Parted, parts_of}
+use Rattle.clause_parts.specs.Sides.{split_parts, side_clauses}
+use Rattle.clause_parts.specs.SideLaws.{two_parts, split_parts-two}
 use Rattle.proof_steps.specs.Steps.{numbered, side_of}
-use Rattle.proof_steps.specs.Checked.{stated, side_clauses, assumption_clauses, premises}
+use Rattle.proof_steps.specs.Checked.{stated, assumption_clauses, premises}
 use Rattle.clause_parts.proofs.Joint.{or_true}
 
 -- ---- elements
@@ -84,8 +86,10 @@ module _ (lines : List Line) where
 
   -- ---- the assumptions of a line's split
 
-  pub assumed_of_line : (m side : ℕ) (r : Statement) → numbered (stated lines) m ≡ Some r → assumption_clauses lines (side_of m side) ≡ option_map_or (side_clauses side) (parts_of r.clause) []
-  assumed_of_line m side r e = ap (λ o. option_map_or (side_clauses side) (option_and_then (λ (s : Statement). parts_of s.clause) o) []) e
+  pub assumed_of_line : (m side : ℕ) (r : Statement) → numbered (stated lines) m ≡ Some r → assumption_clauses lines (side_of m side) ≡ option_map_or (side_clauses side) (option_map two_parts (parts_of r.clause)) []
+  assumed_of_line m side r e =
+      ap (λ o. option_map_or (side_clauses side) (option_and_then (λ (s : Statement). split_parts s.clause) o) []) e
+      ∙ ap (λ o. option_map_or (side_clauses side) o []) (split_parts-two r.clause)
 
-  pub assumed_of_parts : (m side : ℕ) (r : Statement) (parts : Parted) → numbered (stated lines) m ≡ Some r → parts_of r.clause ≡ Some parts → assumption_clauses lines (side_of m side) ≡ side_clauses side parts
-  assumed_of_parts m side r parts e is = assumed_of_line m side r e ∙ ap (λ o. option_map_or (side_clauses side) o []) is
+  pub assumed_of_parts : (m side : ℕ) (r : Statement) (parts : Parted) → numbered (stated lines) m ≡ Some r → parts_of r.clause ≡ Some parts → assumption_clauses lines (side_of m side) ≡ side_clauses side (two_parts parts)
+  assumed_of_parts m side r parts e is = assumed_of_line m side r e ∙ ap (λ o. option_map_or (side_clauses side) (option_map two_parts o) []) is

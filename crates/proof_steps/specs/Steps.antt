@@ -2,7 +2,7 @@
 -- Resolution, factoring, paramodulation (superposition), equality resolution and equality factoring are those of
 -- Weidenbach 2001, section on superposition, here for given substitutions; the case rules are its splitting rule,
 -- as steps of one proof.
-use Rattle.std.specs.Prelude.{◌≡◌, ℕ, zero, suc, ◌<◌, ◌≤◌, min, ⊤, Bool, true, false, ◌&&◌, ◌||◌, ◌==◌, if◌then◌else◌, List, [], ◌∷◌, ◌++◌, length, Option, Some, None, IfSome, IsSomeAnd, Result, Ok, Err, option_map, option_and_then, slice_get, remove, nat_le}
+use Rattle.std.specs.Prelude.{◌≡◌, ℕ, zero, suc, ◌<◌, ◌≤◌, min, ⊤, Bool, true, false, ◌&&◌, ◌||◌, ◌==◌, if◌then◌else◌, List, [], ◌∷◌, ◌++◌, length, Option, Some, None, IfSome, IsSomeAnd, Result, Ok, Err, option_map, option_and_then, slice_get, remove, nat_le, nat_lt, map, not, filter_map}
 use Rattle.spl_terms.specs.declared.term.Term.{Term}
 use Rattle.spl_terms.specs.declared.atom.Atom.{Atom}
 use Rattle.spl_terms.specs.declared.atom.Atom.TheVariants.{Holds, Equal}
@@ -24,7 +24,8 @@ use Rattle.proof_steps.specs.declared.step.Rule.{Rule}
 use Rattle.proof_steps.specs.declared.step.Rule.TheVariants.{Input, Resolve, Factor, Paramodulate, Reflex, EqFactor, Assume, CaseLeft, CaseRight, CaseBoth}
 use Rattle.proof_steps.specs.declared.step.Step.{Step}
 use Rattle.proof_steps.specs.Spots.{atom_at, term_under, with_term_at}
-use Rattle.clause_parts.specs.Parts.{Parted, parts_of, negated_atom}
+use Rattle.clause_parts.specs.Parts.{part_by}
+use Rattle.clause_parts.specs.Sides.{part_marks, split_parts, assumed}
 
 -- ---- words
 
@@ -142,30 +143,74 @@ from_two f p q = option_map (λ c. states c (united p.deps q.deps)) (f p.clause 
 abbrev pub side_of : ℕ → ℕ → Assumption
 side_of split side = record { split = split; side = side }
 
--- what is assumed: the left part; the right part; or the negation of an atom of a left part without variables
-abbrev pub assumed : ℕ → Option ℕ → Parted → Option Clause
-assumed side None parts = if side == 1 then Some parts.left else (if side == 2 then Some parts.right else None)
-assumed side (Some k) parts = if (side == 2) && parts.left_ground then negated_atom k parts.left else None
-
 -- the empty clause that depends on this side of the split
 abbrev pub closes : Assumption → Statement → Bool
 closes a e = is_empty e.clause && contains_assumption e.deps a
 
+-- what is assumed on a side of the split of the clause r with this number: its part, or a negation there; it depends on that
+-- side alone
 abbrev pub assumption_of : ℕ → ℕ → Option ℕ → Statement → Option Statement
-assumption_of split side negated r = option_map (λ c. states c (side_of split side ∷ [])) (option_and_then (assumed side negated) (parts_of r.clause))
+assumption_of split side negated r = option_map (λ c. states c (side_of split side ∷ [])) (option_and_then (assumed side negated) (split_parts r.clause))
 
--- one side is closed, so the other part holds
-abbrev pub case_left : ℕ → Statement → Statement → Option Statement
-case_left split r e = if closes (side_of split 1) e then option_map (λ parts. states parts.right (united (without_assumption (side_of split 1) e.deps) r.deps)) (parts_of r.clause) else None
+-- ---- closed sides
 
-abbrev pub case_right : ℕ → Statement → Statement → Option Statement
-case_right split r e = if closes (side_of split 2) e then option_map (λ parts. states parts.left (united (without_assumption (side_of split 2) e.deps) r.deps)) (parts_of r.clause) else None
+-- the numbers ascend, and each is above this one and at most so many
+abbrev pub ascend_within : ℕ → ℕ → List ℕ → Bool
+ascend_within low count [] = true
+ascend_within low count (n ∷ ns) = nat_lt low n && (nat_le n count && ascend_within n count ns)
+
+-- there is at least one side, and an empty clause for each, which depends on it
+abbrev pub are_closed : ℕ → List ℕ → List Statement → Bool
+are_closed split [] es = false
+are_closed split (side ∷ []) [] = false
+are_closed split (side ∷ []) (e ∷ []) = closes (side_of split side) e
+are_closed split (side ∷ []) (e ∷ f ∷ es) = false
+are_closed split (side ∷ next ∷ sides) [] = false
+are_closed split (side ∷ next ∷ sides) (e ∷ es) = closes (side_of split side) e && are_closed split (next ∷ sides) es
+
+-- these dependencies, and those of each further empty clause without its side
+abbrev pub freed_deps : ℕ → List Assumption → List ℕ → List Statement → List Assumption
+freed_deps split deps [] es = deps
+freed_deps split deps (side ∷ sides) [] = deps
+freed_deps split deps (side ∷ sides) (e ∷ es) = freed_deps split (united deps (without_assumption (side_of split side) e.deps)) sides es
+
+-- the dependencies of each empty clause without its side, and those of the clause that was split
+abbrev pub closed_deps : ℕ → List Assumption → List ℕ → List Statement → List Assumption
+closed_deps split whole [] es = whole
+closed_deps split whole (side ∷ sides) [] = whole
+closed_deps split whole (side ∷ sides) (e ∷ es) = united (freed_deps split (without_assumption (side_of split side) e.deps) sides es) whole
+
+-- a mark where one of the two has one; a shorter list has none past its end
+abbrev pub either : List Bool → List Bool → List Bool
+either [] bs = bs
+either (a ∷ as') [] = a ∷ as'
+either (a ∷ as') (b ∷ bs) = (a || b) ∷ either as' bs
+
+-- a mark where one of the lists has one
+abbrev pub some_of : List (List Bool) → List Bool
+some_of [] = []
+some_of (ms ∷ more) = either ms (some_of more)
+
+-- the clause without the atoms of the parts of these sides
+abbrev pub without_parts : List (List Bool) → List ℕ → Clause → Clause
+without_parts marks sides c = in_order (part_by c (map not (some_of (filter_map (numbered marks) sides))))
+
+-- these sides of the split of r are closed by empty clauses, so what is left of r holds
+abbrev pub by_cases : ℕ → List ℕ → Statement → List Statement → Option Statement
+by_cases split sides r es =
+    option_and_then (λ marks. when (ascend_within 0 (length marks) sides && are_closed split sides es) (states (without_parts marks sides r.clause) (closed_deps split r.deps sides es))) (part_marks r.clause)
+
+-- all sides are closed, so nothing is left; this is concluded whether or not r has parts
+abbrev pub all_closed : ℕ → List ℕ → Statement → List Statement → Option Statement
+all_closed split sides r es = when (are_closed split sides es) (states (record { constraint = []; antecedent = []; succedent = [] }) (closed_deps split r.deps sides es))
+
+-- one side is closed
+abbrev pub side_closed : ℕ → ℕ → Statement → Statement → Option Statement
+side_closed split side r e = by_cases split (side ∷ []) r (e ∷ [])
 
 -- both sides are closed
-abbrev pub case_both : ℕ → Statement → Statement → Statement → Option Statement
-case_both split r e f =
-    when (closes (side_of split 1) e && closes (side_of split 2) f)
-    (states (record { constraint = []; antecedent = []; succedent = [] }) (united (united (without_assumption (side_of split 1) e.deps) (without_assumption (side_of split 2) f.deps)) r.deps))
+abbrev pub both_closed : ℕ → Statement → Statement → Statement → Option Statement
+both_closed split r e f = all_closed split (1 ∷ 2 ∷ []) r (e ∷ f ∷ [])
 
 -- ---- the table
 
@@ -177,9 +222,9 @@ concluded input earlier (Paramodulate i right spot s t) (m ∷ n ∷ []) = of_tw
 concluded input earlier (Reflex j s) (m ∷ []) = of_one (from_one (reflection j s.terms)) (numbered earlier m)
 concluded input earlier (EqFactor i i_right j j_right s) (m ∷ []) = of_one (from_one (equality_factoring i i_right j j_right s.terms)) (numbered earlier m)
 concluded input earlier (Assume side negated) (m ∷ []) = of_one (assumption_of m side negated) (numbered earlier m)
-concluded input earlier CaseLeft (m ∷ n ∷ []) = of_two (case_left m) (numbered earlier m) (numbered earlier n)
-concluded input earlier CaseRight (m ∷ n ∷ []) = of_two (case_right m) (numbered earlier m) (numbered earlier n)
-concluded input earlier CaseBoth (m ∷ n ∷ o ∷ []) = of_three (case_both m) (numbered earlier m) (numbered earlier n) (numbered earlier o)
+concluded input earlier CaseLeft (m ∷ n ∷ []) = of_two (side_closed m 1) (numbered earlier m) (numbered earlier n)
+concluded input earlier CaseRight (m ∷ n ∷ []) = of_two (side_closed m 2) (numbered earlier m) (numbered earlier n)
+concluded input earlier CaseBoth (m ∷ n ∷ o ∷ []) = of_three (both_closed m) (numbered earlier m) (numbered earlier n) (numbered earlier o)
 concluded input earlier _ _ = None
 
 -- the statement that a step concludes from the input and the earlier statements, of any size; nothing where its rule doesn't apply

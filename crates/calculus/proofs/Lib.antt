@@ -1,0 +1,7 @@
+pub mod Lifting
+pub mod Superposing
+pub mod Own
+pub mod Words
+pub mod InferenceExamples
+pub mod ReductionExamples
+pub mod SortExamples

@@ -1,0 +1,9 @@
+pub mod Inferences
+pub mod InferenceLaws
+pub mod Found
+pub mod Reductions
+pub mod ReductionLaws
+pub mod Coverage
+pub mod CoverageLaws
+pub mod Notes
+pub mod Sorts
