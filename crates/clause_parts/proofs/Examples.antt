@@ -7,9 +7,7 @@ use Rattle.spl_terms.specs.declared.atom.Atom.{Atom}
 use Rattle.spl_terms.specs.declared.atom.Atom.TheVariants.{Holds}
 use Rattle.spl_terms.specs.declared.clause.Clause.{Clause}
 use Rattle.spl_terms.specs.Clauses.{atom_variables}
-use Rattle.spl_terms.proofs.TermLemmas.{term_eq-Var-Var, term_eq-Var-App, term_eq-App-Var, term_eq-App-App}
-use Rattle.spl_terms.proofs.NumberLemmas.{term_variables-Var, term_variables-App}
-use Rattle.spl_truth.proofs.Replacing.{replace-Var, replace-App, ground-Var, ground-App}
+use Rattle.spl_terms.specs.TermLaws.{term_eq-Var-Var, term_eq-Var-App, term_eq-App-Var, term_eq-App-App, term_variables-Var, term_variables-App, replace-Var, replace-App, ground-Var, ground-App}
 use Rattle.clause_parts.specs.Parts.{share, variable_lists, spread, component, has_succedent, first_head, if_rest, parted_by, parts_of}
 
 -- ---- the words of the examples

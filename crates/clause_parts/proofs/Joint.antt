@@ -7,9 +7,9 @@ use Rattle.spl_terms.specs.declared.atom.Atom.{Atom}
 use Rattle.spl_terms.specs.declared.atom.Atom.TheVariants.{Holds, Equal}
 use Rattle.spl_terms.specs.Terms.{term_variables, replace}
 use Rattle.spl_terms.specs.Clauses.{atom_variables, replace_in_atom}
-use Rattle.spl_terms.proofs.TermLemmas.{Each, term_induction}
-use Rattle.spl_terms.proofs.NumberLemmas.{term_variables-Var, term_variables-App}
-use Rattle.spl_truth.proofs.Replacing.{and_parts, replace-Var, replace-App, at_each}
+use Rattle.spl_terms.specs.TermLaws.{Each, term_induction, term_variables-Var, term_variables-App, replace-Var, replace-App}
+use Rattle.std.proofs.lemmas.Bool.{and_parts}
+use Rattle.spl_truth.specs.InstanceLaws.{at_each}
 use Rattle.clause_parts.specs.Parts.{share, marked, component}
 use Rattle.clause_parts.specs.Marking.{marked_variables}
 use Rattle.clause_parts.proofs.Marks.{share-reached}

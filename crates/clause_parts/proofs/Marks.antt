@@ -7,7 +7,7 @@ use Rattle.std.proofs.lemmas.List.Folds.{list_any-append}
 use Rattle.spl_terms.specs.declared.atom.Atom.{Atom}
 use Rattle.spl_terms.specs.declared.clause.Clause.{Clause}
 use Rattle.spl_terms.specs.Clauses.{atom_variables, atoms_of}
-use Rattle.spl_terms.proofs.NumberLemmas.{term_variables-Var, term_variables-App}
+use Rattle.spl_terms.specs.TermLaws.{term_variables-Var, term_variables-App}
 use Rattle.clause_parts.specs.Parts.{variable_lists, share, marked, spread_from, spread, spread_times, only, component, has_succedent, first_head, if_rest, left_marks, succedent_marks}
 use Rattle.clause_parts.specs.Marking.{marked_variables, spread_over, all_if}
 

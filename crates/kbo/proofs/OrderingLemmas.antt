@@ -6,8 +6,7 @@ use Rattle.std.proofs.lemmas.List.Sums.{sum_by-cons}
 use Rattle.spl_terms.specs.declared.term.Symbol.{Symbol}
 use Rattle.spl_terms.specs.declared.term.Term.{Term, App}
 use Rattle.spl_terms.specs.Terms.{term_symbols, term_variables}
-use Rattle.spl_terms.proofs.TermLemmas.{term_symbols-App}
-use Rattle.spl_terms.proofs.NumberLemmas.{term_variables-App}
+use Rattle.spl_terms.specs.TermLaws.{term_symbols-App, term_variables-App}
 use Rattle.kbo.specs.declared.side.Side.TheVariants.{Left, Right}
 use Rattle.kbo.specs.Tallies.{counted, noted, on_left, on_right, IsEven, IsTally, TalliesTerms, TalliesLists}
 use Rattle.kbo.proofs.TallyLemmas.{even_tally, left_counted, right_counted}

@@ -4,8 +4,7 @@ use Rattle.std.proofs.lemmas.Bool.{eqb-true, ltb-true, ltb-false, leb-false, lt-
 use Rattle.std.proofs.lemmas.List.{length-set}
 use Rattle.std.proofs.lemmas.List.Sums.{sum_by-cons, get_or-le-sum_by}
 use Rattle.std.proofs.lemmas.Grind.{fold-append}
-use Rattle.spl_terms.proofs.TermLemmas.{term_symbols-Var, term_symbols-App, term_symbols-positive}
-use Rattle.spl_terms.proofs.NumberLemmas.{term_variables-Var, term_variables-App}
+use Rattle.spl_terms.specs.TermLaws.{term_symbols-Var, term_symbols-App, term_symbols-positive, term_variables-Var, term_variables-App}
 use Rattle.kbo.specs.declared.side.Side.{Side}
 use Rattle.kbo.specs.declared.side.Side.TheVariants.{Left, Right}
 use Rattle.spl_truth.specs.Orders.{times, contains_each}
@@ -13,7 +12,8 @@ use Rattle.kbo.specs.declared.order.Order.{Order}
 use Rattle.kbo.specs.declared.order.Order.TheVariants.{Greater, Less, Incomparable}
 use Rattle.kbo.specs.Comparisons.{decided, judged}
 use Rattle.kbo.specs.Tallies.{above, below, raised, lowered, noted, on_left, on_right, is_blind, told, IsEven, IsTally}
-use Rattle.kbo.proofs.TimesLemmas.{times-append, times-cons, times-within, contains_at, contains_all, same_test}
+use Rattle.spl_terms.specs.VariableLaws.{equally}
+use Rattle.kbo.proofs.TimesLemmas.{times-append, times-cons, times-within, contains_at, contains_all}
 
 pub on_left-sum : (s : Side) (a b : ℕ) → on_left s (a + b) ≡ on_left s a + on_left s b
 on_left-sum Left a b = refl
@@ -168,13 +168,13 @@ module _ (n : ℕ) (bs : List ℕ) (beyond : Bool) (l r : ℕ) (vs ws : List ℕ
 
   pub deficit_test : beyond ≡ false → (deficit : ℕ) → deficit ≡ sum_by below bs → (deficit == 0) ≡ contains_each vs ws
   deficit_test known deficit e =
-      same_test (deficit == 0) (contains_each vs ws)
+      equally (deficit == 0) (contains_each vs ws)
       (λ h. no_deficit known (sym e ∙ eqb-true deficit 0 h))
       (λ h. eq-eqb deficit 0 (e ∙ deficit_none h))
 
   pub surplus_test : beyond ≡ false → (surplus : ℕ) → surplus ≡ sum_by above bs → (surplus == 0) ≡ contains_each ws vs
   surplus_test known surplus e =
-      same_test (surplus == 0) (contains_each ws vs)
+      equally (surplus == 0) (contains_each ws vs)
       (λ h. no_surplus known (sym e ∙ eqb-true surplus 0 h))
       (λ h. eq-eqb surplus 0 (e ∙ surplus_none h))
 

@@ -7,7 +7,7 @@ use Rattle.spl_terms.specs.declared.atom.Atom.{Atom}
 use Rattle.spl_terms.specs.declared.clause.Clause.{Clause}
 use Rattle.spl_terms.specs.Clauses.{atoms_of, replace_in_atom, replace_in}
 use Rattle.spl_truth.specs.Truth.{truth}
-use Rattle.spl_truth.proofs.Replacing.{at_each}
+use Rattle.spl_truth.specs.InstanceLaws.{at_each}
 use Rattle.clause_parts.specs.Parts.{marked, component, part_by, variable_lists, constraint_marks, antecedent_marks, succedent_marks}
 use Rattle.clause_parts.specs.Marking.{marked_variables}
 use Rattle.clause_parts.proofs.Marks.{length-atoms}

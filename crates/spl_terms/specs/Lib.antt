@@ -6,6 +6,7 @@ pub mod TermLaws
 pub mod Clauses
 pub mod Hashes
 pub mod SameLaws
+pub mod SizeLaws
 pub mod VariableLaws
 pub mod InOrder
 pub mod InOrderLaws
