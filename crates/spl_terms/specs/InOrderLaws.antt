@@ -16,7 +16,8 @@ use Rattle.spl_terms.specs.Clauses.{is_same, added, distinct, at_lists, atom_var
 use Rattle.spl_terms.specs.InOrder.{are_different, IsInOrder, variables}
 use Rattle.spl_terms.specs.TermLaws.{Each, term_induction, term_variables-Var, term_variables-App, replace-Var, replace-App, replace-itself, replace_all-itself}
 use Rattle.spl_terms.specs.SameLaws.{same-replace}
-use Rattle.spl_terms.specs.VariableLaws.{equally, itself, has, has-append-left, has-append-right, has-firsts, place-below, place-stands, place-apart, fold-map, place-map, variables-parts, renamed_variables_clause}
+use Rattle.spl_terms.specs.BoolLaws.{equally}
+use Rattle.spl_terms.specs.VariableLaws.{itself, has, has-append-left, has-append-right, has-firsts, place-below, place-stands, place-apart, fold-map, place-map, variables-parts, renamed_variables_clause}
 
 -- ---- dropping repeats
 

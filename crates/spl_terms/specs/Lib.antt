@@ -2,6 +2,7 @@ pub mod formers
 pub mod Lists
 pub mod ListLaws
 pub mod Terms
+pub mod BoolLaws
 pub mod TermLaws
 pub mod Clauses
 pub mod Hashes

@@ -12,14 +12,10 @@ use Rattle.spl_terms.specs.declared.atom.Atom.TheVariants.{Holds, Equal}
 use Rattle.spl_terms.specs.declared.clause.Clause.{Clause}
 use Rattle.spl_terms.specs.Terms.{replace, term_variables}
 use Rattle.spl_terms.specs.Clauses.{atom_variables, clause_variables, noted, place_in, replace_in_atom, replace_in}
+use Rattle.spl_terms.specs.BoolLaws.{equally}
 use Rattle.spl_terms.specs.TermLaws.{Each, term_induction, term_variables-Var, term_variables-App, replace-Var, replace-App}
 
 -- ---- tests
-
-pub equally : (x y : Bool) → (x ≡ true → y ≡ true) → (y ≡ true → x ≡ true) → x ≡ y
-equally true y h k = sym (h refl)
-equally false true h k = k refl
-equally false false h k = refl
 
 pub itself : (v : ℕ) → (v == v) ≡ true
 itself v = eq-eqb v v refl

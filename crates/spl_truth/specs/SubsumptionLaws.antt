@@ -16,7 +16,7 @@ use Rattle.spl_terms.specs.SameLaws.{same_self, same_turned, same_joined}
 use Rattle.spl_truth.specs.Redundancy.{MapsApart, Subsumes, is_contained, is_subclause}
 use Rattle.std.proofs.lemmas.Option.{none-some, same_Some, slice_get_within}
 use Rattle.spl_terms.specs.ListLaws.{get-there}
-use Rattle.spl_terms.specs.VariableLaws.{equally}
+use Rattle.spl_terms.specs.BoolLaws.{equally}
 
 -- ---- each variable replaced by itself
 
