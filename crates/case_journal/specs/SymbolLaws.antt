@@ -15,8 +15,7 @@ use Rattle.spl_terms.specs.declared.clause.Part.TheVariants.{Constraint, Anteced
 use Rattle.spl_terms.specs.declared.clause.Clause.{Clause}
 use Rattle.spl_terms.specs.Terms.{replace}
 use Rattle.spl_terms.specs.Clauses.{atoms_of, is_of_sort, replace_in_atom, replace_in, added, distinct, at_lists, number_in, in_order}
-use Rattle.spl_terms.proofs.TermLemmas.{Each, term_induction, fold-Var, fold-App}
-use Rattle.spl_terms.proofs.NumberLemmas.{replace-Var, replace-App}
+use Rattle.spl_terms.specs.TermLaws.{Each, term_induction, fold-Var, fold-App, replace-Var, replace-App}
 use Rattle.spl_truth.specs.Truth.{entry, apply}
 use Rattle.dep_sets.specs.declared.deps.Assumption.{Assumption}
 use Rattle.dep_sets.specs.Assumptions.{united}

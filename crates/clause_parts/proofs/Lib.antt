@@ -1,4 +1,2 @@
 pub mod Marks
-pub mod Closure
-pub mod Joint
 pub mod Examples

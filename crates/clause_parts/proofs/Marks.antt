@@ -2,20 +2,18 @@
 use Rattle.std.proofs.Common.{◌≡◌, ℕ, zero, suc, ◌+◌, ◌-◌, ◌<◌, ◌≤◌, Bool, true, false, not, ◌||◌, ◌==◌, List, [], ◌∷◌, ◌++◌, length, map, drop, refl, sym, ap, ◌∙◌, arith, append_assoc, append-nil, length-append, length-set, length-drop, take, subst, add-one, replicate, Option, Some, None, option_and_then, if◌then◌else◌}
 use Rattle.std.specs.List.{list_any}
 use Rattle.std.specs.List.{slice_get}
-use Rattle.std.proofs.lemmas.List.{length-replicate}
+use Rattle.std.proofs.lemmas.List.{length-replicate, map-append}
 use Rattle.std.proofs.lemmas.List.Folds.{list_any-append}
 use Rattle.spl_terms.specs.declared.atom.Atom.{Atom}
 use Rattle.spl_terms.specs.declared.clause.Clause.{Clause}
 use Rattle.spl_terms.specs.Clauses.{atom_variables, atoms_of}
-use Rattle.spl_terms.proofs.NumberLemmas.{term_variables-Var, term_variables-App}
+use Rattle.spl_terms.specs.TermLaws.{term_variables-Var, term_variables-App}
 use Rattle.clause_parts.specs.Parts.{variable_lists, share, marked, spread_from, spread, spread_times, only, component, has_succedent, first_head, if_rest, left_marks, succedent_marks}
+use Rattle.spl_terms.specs.ListLaws.{get-left, get-behind}
+use Rattle.clause_parts.specs.MarkLaws.{share-reached, stays, length-spread_from, length-component, length-lists, length-atoms}
 use Rattle.clause_parts.specs.Marking.{marked_variables, spread_over, all_if}
 
 pub ruleset variable_laws = (term_variables-Var, term_variables-App, append_assoc, append-nil)
-
-map-append : (f : Atom → List ℕ) (xs ys : List Atom) → map f (xs ++ ys) ≡ map f xs ++ map f ys
-map-append f [] ys = refl
-map-append f (x ∷ xs) ys = ap (λ l. f x ∷ l) (map-append f xs ys)
 
 pub lists_are : (c : Clause) → variable_lists c ≡ map atom_variables c.constraint ++ map atom_variables c.antecedent ++ map atom_variables c.succedent
 lists_are c = map-append atom_variables (c.constraint ++ c.antecedent) c.succedent ∙ ap (λ l. l ++ map atom_variables c.succedent) (map-append atom_variables c.constraint c.antecedent)
@@ -57,29 +55,6 @@ spread_step variables vs b bs more made = append_assoc made ((b || share vs vari
 
 pub ruleset spread_laws = (spread_step, no_spread, append-nil)
 
-none_shared : (vs : List ℕ) → share vs [] ≡ false
-none_shared [] = refl
-none_shared (v ∷ vs) = none_shared vs
-
-or_swap : (a b c d : Bool) → ((a || b) || (c || d)) ≡ ((a || c) || (b || d))
-or_swap true b c d = refl
-or_swap false true true d = refl
-or_swap false true false d = refl
-or_swap false false c d = refl
-
-share-append : (vs xs ys : List ℕ) → share vs (xs ++ ys) ≡ (share vs xs || share vs ys)
-share-append [] xs ys = refl
-share-append (v ∷ vs) xs ys =
-    (let p = list_any-append (λ w. v == w) xs ys in let q = share-append vs xs ys in λ i. p i || q i)
-    ∙ or_swap (list_any (λ w. v == w) xs) (list_any (λ w. v == w) ys) (share vs xs) (share vs ys)
-
--- whether one of the lists has a variable of vs is told by all of them together
-pub share-reached : (vs : List ℕ) (bs : List Bool) (lists : List (List ℕ)) → share vs (marked_variables bs lists) ≡ list_any (share vs) (marked bs lists)
-share-reached vs [] lists = none_shared vs
-share-reached vs (b ∷ bs) [] = none_shared vs
-share-reached vs (true ∷ bs) (ws ∷ lists) = share-append vs ws (marked_variables bs lists) ∙ ap (λ b. share vs ws || b) (share-reached vs bs lists)
-share-reached vs (false ∷ bs) (ws ∷ lists) = share-reached vs bs lists
-
 over_from : (variables : List ℕ) (others : List (List ℕ)) → ((vs : List ℕ) → share vs variables ≡ list_any (share vs) others) → (lists : List (List ℕ)) (bs : List Bool) → spread_over variables lists bs ≡ spread_from others lists bs
 over_from variables others same [] bs = refl
 over_from variables others same (vs ∷ more) [] = refl
@@ -88,10 +63,6 @@ over_from variables others same (vs ∷ more) (b ∷ bs) = let p = same vs in le
 pub spread_is : (lists : List (List ℕ)) (bs : List Bool) → spread_over (marked_variables bs lists) lists bs ≡ spread lists bs
 spread_is lists bs = over_from (marked_variables bs lists) (marked bs lists) (λ vs. share-reached vs bs lists) lists bs
 
-pub stays : (n : ℕ) (lists : List (List ℕ)) (bs : List Bool) → spread lists bs ≡ bs → spread_times n lists bs ≡ bs
-stays zero lists bs e = refl
-stays (suc n) lists bs e = ap (spread_times n lists) e ∙ stays n lists bs e
-
 pub one_round : (n : ℕ) (lists : List (List ℕ)) (bs : List Bool) → 0 < n → spread_times (n - 1) lists (spread lists bs) ≡ spread_times n lists bs
 one_round zero lists bs h = absurd (omega arith)
 one_round (suc n) lists bs h = let e : suc n - 1 ≡ n = omega arith in ap (λ m. spread_times m lists (spread lists bs)) e
@@ -99,28 +70,6 @@ one_round (suc n) lists bs h = let e : suc n - 1 ≡ n = omega arith in ap (λ m
 pub ruleset rounds = (stays, one_round)
 
 -- ---- how many marks there are
-
-pub length-spread_from : (others lists : List (List ℕ)) (bs : List Bool) → length bs ≡ length lists → length (spread_from others lists bs) ≡ length lists
-length-spread_from others [] bs e = refl
-length-spread_from others (vs ∷ more) [] e = absurd (omega (arith, e))
-length-spread_from others (vs ∷ more) (b ∷ bs) e = let h : length bs ≡ length more = omega (arith, e) in omega (arith, length-spread_from others more bs h)
-
-length-times : (n : ℕ) (lists : List (List ℕ)) (bs : List Bool) → length bs ≡ length lists → length (spread_times n lists bs) ≡ length lists
-length-times zero lists bs e = e
-length-times (suc n) lists bs e = length-times n lists (spread lists bs) (length-spread_from (marked bs lists) lists bs e)
-
-pub length-component : (k : ℕ) (lists : List (List ℕ)) → length (component k lists) ≡ length lists
-length-component k lists = length-times (length lists) lists (only k lists) (length-set (replicate (length lists) false) k true ∙ length-replicate (length lists) false)
-
-length-map : (f : Atom → List ℕ) (xs : List Atom) → length (map f xs) ≡ length xs
-length-map f [] = refl
-length-map f (x ∷ xs) = omega (arith, length-map f xs)
-
-pub length-lists : (c : Clause) → length (variable_lists c) ≡ length (atoms_of c)
-length-lists c = length-map atom_variables (atoms_of c)
-
-pub length-atoms : (c : Clause) → length (variable_lists c) ≡ length c.constraint + length c.antecedent + length c.succedent
-length-atoms c = omega (arith, length-lists c, length-append (c.constraint ++ c.antecedent) c.succedent, length-append c.constraint c.antecedent)
 
 pub ruleset lengths = (length-component, length-lists)
 
@@ -189,14 +138,4 @@ next_alike xs ys n before here = rw add-one (from xs ys n before here)
 
 -- ---- the atom at a place of all of them
 
-pub get-front : (xs ys : List Atom) (k : ℕ) → k < length xs → slice_get (xs ++ ys) k ≡ slice_get xs k
-get-front [] ys k h = absurd (omega arith)
-get-front (x ∷ xs) ys zero h = refl
-get-front (x ∷ xs) ys (suc k) h = get-front xs ys k (omega arith)
-
-pub get-behind : (xs ys : List Atom) (k : ℕ) → length xs ≤ k → slice_get (xs ++ ys) k ≡ slice_get ys (k - length xs)
-get-behind [] ys k h = let e : k ≡ k - 0 = omega arith in ap (slice_get ys) e
-get-behind (x ∷ xs) ys zero h = absurd (omega arith)
-get-behind (x ∷ xs) ys (suc k) h = let e : k - length xs ≡ suc k - length (x ∷ xs) = omega arith in get-behind xs ys k (omega arith) ∙ ap (slice_get ys) e
-
-pub ruleset get_laws = (get-front, get-behind)
+pub ruleset get_laws = (get-left, get-behind)

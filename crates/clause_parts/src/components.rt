@@ -1,3 +1,4 @@
+//! Components of atoms that share variables, by marks: the first one with a succedent atom.
 ghost use Rattle.std.specs.Prelude.{◌≡◌, ◌==◌, ◌<◌, ◌+◌, ◌++◌, not, map, IfSome, length, IsTrue, ◌↔◌, IfOk, OnOk};
 ghost use Rattle.std.specs.List.{list_any, flat_map, slice_get};
 ghost use Rattle.spl_terms.specs.Terms.{term_variables};

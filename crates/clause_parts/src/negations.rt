@@ -1,3 +1,4 @@
+//! The negation of one atom of a clause, which a side of a split assumes.
 ghost use Rattle.std.specs.Prelude.{◌≡◌, IfOk};
 ghost use Rattle.std.specs.List.{slice_get};
 ghost use Rattle.std.specs.Option.{option_copied};

@@ -1,3 +1,4 @@
+//! The two parts of a clause that is split.
 ghost use Rattle.std.specs.Prelude.{◌≡◌, ◌++◌, [], ◌∷◌, not, map, length, IfOk, OnOk};
 ghost use Rattle.spl_terms.specs.Clauses.{in_order};
 ghost use Rattle.clause_parts.specs.Parts.{variable_lists, marked, part_by, left_of, right_of, part_of_side, parted_by, parts_of};

@@ -5,9 +5,9 @@ use Rattle.std.proofs.lemmas.Bool.{false≢true, and_parts, false_from_ne_true}
 use Rattle.spl_terms.specs.declared.atom.Atom.{Atom}
 use Rattle.spl_terms.specs.declared.clause.Clause.{Clause}
 use Rattle.spl_terms.specs.Clauses.{in_order, is_empty, no_atoms, distinct, atoms_of}
-use Rattle.spl_truth.proofs.Same.{Blind, distinct-any}
+use Rattle.spl_truth.specs.SymmetryLaws.{Blind, distinct-any}
 use Rattle.proof_steps.specs.Parts.{Parted, variable_lists, marked, component, succedent_marks, part_by, has_succedent, first_head, if_rest, left_marks, parted_by, parts_of}
-use Rattle.clause_parts.proofs.Marks.{length-component, length-atoms}
+use Rattle.clause_parts.specs.MarkLaws.{length-component, length-atoms}
 
 -- ---- a clause in order is empty exactly where the clause is
 

@@ -12,7 +12,7 @@ use Rattle.spl_terms.specs.declared.clause.Clause.{Clause}
 use Rattle.spl_terms.specs.declared.clause.PushError.{PushError}
 use Rattle.spl_terms.specs.declared.clause.PushError.TheVariants.{Big, Memory}
 use Rattle.spl_terms.specs.Clauses.{is_same, part_of, with_atom, clause_symbols, FitsOrBig, IsEmpty}
-use Rattle.spl_terms.proofs.ClauseLemmas.{with_atom-repeated, with_atom-new}
+use Rattle.spl_terms.specs.SizeLaws.{with_atom-repeated, with_atom-new}
 use Rattle.dfg_reader.specs.declared.formula.Formula.{Formula, Formula-F, out-Formula}
 use Rattle.dfg_reader.specs.declared.formula.Formula.TheOpen as layer
 use Rattle.dfg_reader.specs.declared.problem.Role.TheVariants as roles

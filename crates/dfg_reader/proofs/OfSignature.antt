@@ -9,7 +9,7 @@ use Rattle.spl_terms.specs.declared.term.Symbol.{Symbol}
 use Rattle.spl_terms.specs.declared.term.Term.{Term, App}
 use Rattle.spl_terms.specs.declared.atom.Atom.{Atom}
 use Rattle.spl_terms.specs.Terms.{kind_eq}
-use Rattle.spl_terms.proofs.TermLemmas.{fold-App}
+use Rattle.spl_terms.specs.TermLaws.{fold-App}
 use Rattle.spl_symbols.specs.Symbols.{Declared}
 use Rattle.dfg_tokens.specs.declared.token.Token.{Token}
 use Rattle.dfg_reader.specs.declared.fault.InputError.{InputError}

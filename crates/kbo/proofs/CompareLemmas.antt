@@ -2,18 +2,18 @@
 use Rattle.std.proofs.Common.{◌≡◌, ℕ, ◌+◌, ◌≤◌, ◌<◌, Bool, true, false, ◌&&◌, ◌||◌, ◌==◌, nat_lt, if◌then◌else◌, List, [], ◌∷◌, length, map, sum, refl, sym, ap, subst, ◌∙◌, arith}
 use Rattle.std.specs.List.{list_any, flat_map}
 use Rattle.std.proofs.Common.{eq-eqb}
-use Rattle.std.proofs.lemmas.Bool.{eqb-true, ltb-true, ltb-false, lt-ltb, le-ltb, false≢true}
+use Rattle.std.proofs.Math.Bool.{and-false}
+use Rattle.std.proofs.lemmas.Bool.{eqb-true, ltb-true, ltb-false, lt-ltb, le-ltb, false≢true, and_parts}
 use Rattle.spl_terms.specs.declared.term.Symbol.{Symbol}
 use Rattle.spl_terms.specs.declared.term.Term.{Term, Var, App}
 use Rattle.spl_terms.specs.Terms.{term_symbols, term_variables, term_eq, terms_eq, symbol_eq}
-use Rattle.spl_terms.proofs.TermLemmas.{term_symbols-Var, term_symbols-App, and-parts, term_eq-true, terms_eq-same, term_eq-Var-Var, term_eq-Var-App, term_eq-App-Var, term_eq-App-App}
-use Rattle.spl_truth.specs.Orders.{times, contains_each, is_greater_head, covers, by_weight, is_greater}
-use Rattle.spl_truth.proofs.OrderLemmas.{first_greater, same_head, by_arguments, is_greater-Var, is_greater-App-Var, is_greater-App-App, heavier, lighter, balanced, HeadCases, alike, first, second, head_cases, term_eq-sym, asymmetric, lists_asymmetric}
+use Rattle.spl_terms.specs.TermLaws.{term_symbols-Var, term_symbols-App, term_eq-true, terms_eq-same, term_eq-Var-Var, term_eq-Var-App, term_eq-App-Var, term_eq-App-App, term_variables-App}
+use Rattle.spl_truth.specs.Orders.{times, contains_each, is_greater_head, meets_variable_condition, by_weight, is_greater}
+use Rattle.spl_truth.specs.OrderLaws.{first_greater, same_head, by_arguments, is_greater-Var, is_greater-App-Var, is_greater-App-App, heavier, lighter, balanced, HeadCases, alike, first, second, head_cases, term_eq-sym, asymmetric, lists_asymmetric}
 use Rattle.kbo.specs.declared.order.Order.{Order}
 use Rattle.kbo.specs.declared.order.Order.TheVariants.{Greater, Less, Equal, Incomparable}
 use Rattle.kbo.proofs.TimesLemmas.{has_times, none_times, contains_all, contains_at}
 use Rattle.kbo.proofs.WalkLemmas.{times-same, times-other, few}
-use Rattle.spl_terms.proofs.NumberLemmas.{term_variables-App}
 use Rattle.kbo.specs.Comparisons.{compare, then_by, compare_heads, compare_lists, decided, judged}
 
 -- ---- lists
@@ -92,7 +92,7 @@ heads_decide c d e a b y z te fg fl o (second p q r) (first p' q' r') other same
 module _ (f : Symbol) (ss : List Term) (g : Symbol) (ts : List Term) where
   same_terms : term_eq (App f ss) (App g ts) ≡ true → same_head f (length ss) g (length ts) ≡ true
   same_terms e =
-      let p : (symbol_eq f g ≡ true) × (terms_eq ss ts ≡ true) = and-parts _ _ (sym (term_eq-App-App f ss g ts) ∙ e) in
+      let p : (symbol_eq f g ≡ true) × (terms_eq ss ts ≡ true) = and_parts _ _ (sym (term_eq-App-App f ss g ts) ∙ e) in
       (λ i. eq-eqb _ _ (ap length (terms_eq-same ss ts p.1)) i && p.0 i)
 
   other_terms : same_head f (length ss) g (length ts) ≡ false → term_eq (App f ss) (App g ts) ≡ false
@@ -119,7 +119,7 @@ module _ (f : Symbol) (ss : List Term) (g : Symbol) (ts : List Term) where
   lower = then_by (compare_heads f (length ss) g (length ts)) (compare_lists ss ts)
 
   same_symbol : same_head f (length ss) g (length ts) ≡ true → term_eq (App f ss) (App g ts) ≡ terms_eq ss ts
-  same_symbol h = term_eq-App-App f ss g ts ∙ ap (λ b. b && terms_eq ss ts) (and-parts _ _ h).1
+  same_symbol h = term_eq-App-App f ss g ts ∙ ap (λ b. b && terms_eq ss ts) (and_parts _ _ h).1
 
   -- the terms have the same weight
   equal_weights : (c d : Bool) → picked (term_eq (App f ss) (App g ts)) (c && forth) (d && back) ≡ decided c d lower
@@ -127,16 +127,16 @@ module _ (f : Symbol) (ss : List Term) (g : Symbol) (ts : List Term) where
       heads_decide c d _ _ _ _ _ (terms_eq ss ts) (first_greater ss ts) (first_greater ts ss) (compare_lists ss ts)
       (head_cases f (length ss) g (length ts)) (head_cases g (length ts) f (length ss))
       other_terms same_symbol
-      (λ h. lists ss ts (eqb-true (length ss) (length ts) (and-parts _ _ h).0))
+      (λ h. lists ss ts (eqb-true (length ss) (length ts) (and_parts _ _ h).0))
       (lists_asymmetric ss ts)
 
   -- an application against an application
-  pub compare_apps : compare (App f ss) (App g ts) ≡ judged (covers (App f ss) (App g ts)) (covers (App g ts) (App f ss)) (term_symbols (App f ss)) (term_symbols (App g ts)) lower
+  pub compare_apps : compare (App f ss) (App g ts) ≡ judged (meets_variable_condition (App f ss) (App g ts)) (meets_variable_condition (App g ts) (App f ss)) (term_symbols (App f ss)) (term_symbols (App g ts)) lower
   compare_apps =
       (λ i. picked (term_eq (App f ss) (App g ts)) (is_greater-App-App f ss g ts i) (is_greater-App-App g ts f ss i))
       ∙ by_test (nat_lt (term_symbols (App g ts)) (term_symbols (App f ss))) (nat_lt (term_symbols (App f ss)) (term_symbols (App g ts))) refl refl
     where
-      by_test : (a b : Bool) → nat_lt (term_symbols (App g ts)) (term_symbols (App f ss)) ≡ a → nat_lt (term_symbols (App f ss)) (term_symbols (App g ts)) ≡ b → picked (term_eq (App f ss) (App g ts)) (by_weight (App f ss) (App g ts) forth) (by_weight (App g ts) (App f ss) back) ≡ (if a then (if covers (App f ss) (App g ts) then Greater else Incomparable) else (if b then (if covers (App g ts) (App f ss) then Less else Incomparable) else decided (covers (App f ss) (App g ts)) (covers (App g ts) (App f ss)) lower))
+      by_test : (a b : Bool) → nat_lt (term_symbols (App g ts)) (term_symbols (App f ss)) ≡ a → nat_lt (term_symbols (App f ss)) (term_symbols (App g ts)) ≡ b → picked (term_eq (App f ss) (App g ts)) (by_weight (App f ss) (App g ts) forth) (by_weight (App g ts) (App f ss) back) ≡ (if a then (if meets_variable_condition (App f ss) (App g ts) then Greater else Incomparable) else (if b then (if meets_variable_condition (App g ts) (App f ss) then Less else Incomparable) else decided (meets_variable_condition (App f ss) (App g ts)) (meets_variable_condition (App g ts) (App f ss)) lower))
       by_test true b p q =
           let lt : term_symbols (App g ts) < term_symbols (App f ss) = ltb-true _ _ p in
           λ i. picked (other_weight (λ e. omega arith) i) (heavier (App f ss) (App g ts) forth lt i) (lighter (App g ts) (App f ss) back lt i)
@@ -146,7 +146,7 @@ module _ (f : Symbol) (ss : List Term) (g : Symbol) (ts : List Term) where
       by_test false false p q =
           let same : term_symbols (App f ss) ≡ term_symbols (App g ts) = omega (arith, ltb-false _ _ p, ltb-false _ _ q) in
           (λ i. picked (term_eq (App f ss) (App g ts)) (balanced (App f ss) (App g ts) forth same i) (balanced (App g ts) (App f ss) back (sym same) i))
-          ∙ equal_weights (covers (App f ss) (App g ts)) (covers (App g ts) (App f ss))
+          ∙ equal_weights (meets_variable_condition (App f ss) (App g ts)) (meets_variable_condition (App g ts) (App f ss))
 
 -- ---- variables
 
@@ -173,9 +173,9 @@ module _ (v : ℕ) (f : Symbol) (ts : List Term) where
               let same : v ≡ w = eqb-true v w e in
               subst (λ (x : ℕ). times x (term_variables (Var v)) ≤ times x (term_variables (App f ts))) same (omega (arith, times-same v, ap (times v) (term_variables-App f ts)))
           as_often w false e here = omega (arith, times-other w v (λ s. false≢true (sym e ∙ eq-eqb v w (sym s))))
-      by_test false h = ap (λ b. b && (nat_lt (term_symbols (Var v)) (term_symbols (App f ts)) || ((term_symbols (App f ts) == term_symbols (Var v)) && false))) (uncovered (covers (App f ts) (Var v)) refl)
+      by_test false h = ap (λ b. b && (nat_lt (term_symbols (Var v)) (term_symbols (App f ts)) || ((term_symbols (App f ts) == term_symbols (Var v)) && false))) (uncovered (meets_variable_condition (App f ts) (Var v)) refl)
         where
-          uncovered : (b : Bool) → covers (App f ts) (Var v) ≡ b → b ≡ false
+          uncovered : (b : Bool) → meets_variable_condition (App f ts) (Var v) ≡ b → b ≡ false
           uncovered false e = refl
           uncovered true e = absurd (omega (arith, contains_at (term_variables (App f ts)) (term_variables (Var v)) e v, times-same v, ap (times v) (term_variables-App f ts), none_times v (flat_map term_variables ts) h))
 
@@ -302,8 +302,4 @@ module _ (s t : Term) (o : Order) (found : o ≡ compare s t) where
       and_true false = refl
 
   pub not_greater_and : (x : Bool) → (o ≡ Greater → ⊥) → false ≡ (x && is_greater s t)
-  not_greater_and x h = sym (ap (λ b. x && b) (not_greater_where s t (λ e. h (found ∙ e))) ∙ and_false x)
-    where
-      and_false : (b : Bool) → (b && false) ≡ false
-      and_false true = refl
-      and_false false = refl
+  not_greater_and x h = sym (ap (λ b. x && b) (not_greater_where s t (λ e. h (found ∙ e))) ∙ and-false x)

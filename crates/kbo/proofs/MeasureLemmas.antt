@@ -7,11 +7,11 @@ use Rattle.spl_terms.specs.declared.atom.Atom.TheVariants.{Holds}
 use Rattle.spl_terms.specs.declared.clause.Part.{Part}
 use Rattle.spl_terms.specs.declared.clause.Part.TheVariants.{Constraint, Antecedent, Succedent}
 use Rattle.spl_terms.specs.Terms.{term_eq}
-use Rattle.spl_terms.proofs.TermLemmas.{term_eq-refl}
+use Rattle.spl_terms.specs.TermLaws.{term_eq-refl}
 use Rattle.spl_truth.specs.Orders.{is_greater}
 use Rattle.spl_truth.specs.Multisets.{is_greater_multiset}
 use Rattle.spl_truth.specs.Places.{measure}
-use Rattle.spl_truth.proofs.OrderLemmas.{term_eq-sym}
+use Rattle.spl_truth.specs.OrderLaws.{term_eq-sym}
 use Rattle.kbo.specs.declared.order.Order.{Order}
 use Rattle.kbo.specs.declared.order.Order.TheVariants as order
 use Rattle.kbo.specs.Comparisons.{compare}

@@ -6,17 +6,16 @@ use Rattle.std.proofs.lemmas.List.Sums.{sum_by-cons}
 use Rattle.spl_terms.specs.declared.term.Symbol.{Symbol}
 use Rattle.spl_terms.specs.declared.term.Term.{Term, App}
 use Rattle.spl_terms.specs.Terms.{term_symbols, term_variables}
-use Rattle.spl_terms.proofs.TermLemmas.{term_symbols-App}
-use Rattle.spl_terms.proofs.NumberLemmas.{term_variables-App}
+use Rattle.spl_terms.specs.TermLaws.{term_symbols-App, term_variables-App}
 use Rattle.kbo.specs.declared.side.Side.TheVariants.{Left, Right}
-use Rattle.kbo.specs.Tallies.{counted, noted, on_left, on_right, IsEven, IsTally, TalliesTerms, TalliesLists}
+use Rattle.kbo.specs.Tallies.{rebalanced, met_beyond, on_left, on_right, IsEven, IsTally, TalliesTerms, TalliesLists}
 use Rattle.kbo.proofs.TallyLemmas.{even_tally, left_counted, right_counted}
 
 -- a tally after more was counted on the left and then on the right
 pub more_counted : (n : ℕ) (bs : List ℕ) (z : Bool) (l r : ℕ) (vs ws : List ℕ) (a b : ℕ) → IsTally n bs z l r vs ws a b → length bs ≡ n
     → (xs ys : List ℕ) (x y : ℕ) → length xs ≤ x → length ys ≤ y → b + y ≤ 4294967295
-    → (cs : List ℕ) (z1 : Bool) (l1 r1 : ℕ) → length cs ≡ n → cs ≡ fold (counted Left) bs xs → z1 ≡ fold (noted n) z xs → l1 ≡ l + on_left Left x → r1 ≡ r + on_right Left x
-    → (ds : List ℕ) (z2 : Bool) (l2 r2 : ℕ) → ds ≡ fold (counted Right) cs ys → z2 ≡ fold (noted n) z1 ys → l2 ≡ l1 + on_left Right y → r2 ≡ r1 + on_right Right y
+    → (cs : List ℕ) (z1 : Bool) (l1 r1 : ℕ) → length cs ≡ n → cs ≡ fold (rebalanced Left) bs xs → z1 ≡ fold (met_beyond n) z xs → l1 ≡ l + on_left Left x → r1 ≡ r + on_right Left x
+    → (ds : List ℕ) (z2 : Bool) (l2 r2 : ℕ) → ds ≡ fold (rebalanced Right) cs ys → z2 ≡ fold (met_beyond n) z1 ys → l2 ≡ l1 + on_left Right y → r2 ≡ r1 + on_right Right y
     → IsTally n ds z2 l2 r2 (vs ++ xs) (ws ++ ys) (a + x) (b + y)
 more_counted n bs z l r vs ws a b t size xs ys x y few few' room cs z1 l1 r1 size' e1 e2 e3 e4 ds z2 l2 r2 d1 d2 d3 d4 =
     let p : IsTally n cs z1 l1 r1 (vs ++ xs) ws (a + x) b = transported n _ _ _ _ _ _ _ _ (left_counted n bs z l r vs ws a b t size xs x few) cs z1 l1 r1 e1 e2 e3 (omega arith) in
@@ -28,8 +27,8 @@ more_counted n bs z l r vs ws a b t size xs ys x y few few' room cs z1 l1 r1 siz
 -- a tally of nothing after both sides were counted
 pub both_counted : (n : ℕ) (bs : List ℕ) (z : Bool) (l r : ℕ) → IsEven n bs z l r → length bs ≡ n
     → (xs ys : List ℕ) (x y : ℕ) → length xs ≤ x → length ys ≤ y → y ≤ 4294967295
-    → (cs : List ℕ) (z1 : Bool) (l1 r1 : ℕ) → length cs ≡ n → cs ≡ fold (counted Left) bs xs → z1 ≡ fold (noted n) z xs → l1 ≡ l + on_left Left x → r1 ≡ r + on_right Left x
-    → (ds : List ℕ) (z2 : Bool) (l2 r2 : ℕ) → ds ≡ fold (counted Right) cs ys → z2 ≡ fold (noted n) z1 ys → l2 ≡ l1 + on_left Right y → r2 ≡ r1 + on_right Right y
+    → (cs : List ℕ) (z1 : Bool) (l1 r1 : ℕ) → length cs ≡ n → cs ≡ fold (rebalanced Left) bs xs → z1 ≡ fold (met_beyond n) z xs → l1 ≡ l + on_left Left x → r1 ≡ r + on_right Left x
+    → (ds : List ℕ) (z2 : Bool) (l2 r2 : ℕ) → ds ≡ fold (rebalanced Right) cs ys → z2 ≡ fold (met_beyond n) z1 ys → l2 ≡ l1 + on_left Right y → r2 ≡ r1 + on_right Right y
     → IsTally n ds z2 l2 r2 xs ys x y
 both_counted n bs z l r even size xs ys x y few few' room cs z1 l1 r1 size' e1 e2 e3 e4 ds z2 l2 r2 d1 d2 d3 d4 =
     subst (λ (s : ℕ × ℕ). IsTally n ds z2 l2 r2 xs ys s.0 s.1) (λ i. (zero-add x i, zero-add y i))

@@ -1,7 +1,8 @@
 -- Sizes of the atoms of a clause, and atoms that aren't solved.
 use Rattle.std.proofs.Common.{◌≡◌, ℕ, zero, suc, ◌+◌, ◌≤◌, ◌<◌, Bool, true, false, ◌&&◌, ◌||◌, List, [], ◌∷◌, ◌++◌, length, get_or, sum_by, Some, refl, sym, ap, ◌∙◌, arith}
 use Rattle.std.specs.List.{slice_get, list_any, flat_map}
-use Rattle.std.proofs.lemmas.List.Sums.{sum_by-append, sum_by-cons}
+use Rattle.std.proofs.Math.Bool.{and-false}
+use Rattle.std.proofs.lemmas.List.Sums.{sum_by-cons}
 use Rattle.spl_terms.specs.declared.term.Symbol.{Symbol}
 use Rattle.spl_terms.specs.declared.term.Term.{Term, Var, App}
 use Rattle.spl_terms.specs.declared.atom.Atom.{Atom}
@@ -11,15 +12,13 @@ use Rattle.spl_terms.specs.declared.clause.Part.TheVariants.{Constraint, Anteced
 use Rattle.spl_terms.specs.declared.clause.Clause.{Clause}
 use Rattle.spl_terms.specs.Terms.{term_eq, terms_eq}
 use Rattle.spl_terms.specs.Clauses.{atom_symbols, atom_variables, clause_symbols, part_of}
-use Rattle.spl_terms.proofs.TermLemmas.{term_eq-App-Var}
+use Rattle.spl_terms.specs.SizeLaws.{symbols-parts}
+use Rattle.spl_terms.specs.TermLaws.{term_eq-App-Var}
 use Rattle.spl_truth.specs.Places.{is_solved}
 
 -- ---- sizes
 
-pub parts_size : (c : Clause) → clause_symbols c ≡ sum_by atom_symbols c.constraint + sum_by atom_symbols c.antecedent + sum_by atom_symbols c.succedent
-parts_size c = omega (arith, sum_by-append atom_symbols (c.constraint ++ c.antecedent) c.succedent, sum_by-append atom_symbols c.constraint c.antecedent)
-
-pub ruleset size_laws = (parts_size)
+pub ruleset size_laws = (symbols-parts)
 
 item_size : (as' : List Atom) (k : ℕ) (a : Atom) → Some a ≡ slice_get as' k → atom_symbols a ≤ sum_by atom_symbols as'
 item_size [] k a e = absurd (cc)
@@ -27,9 +26,9 @@ item_size (b ∷ as') zero a e = let same : a ≡ b = cc in omega (arith, sum_by
 item_size (b ∷ as') (suc k) a e = omega (arith, sum_by-cons atom_symbols b as', item_size as' k a e)
 
 pub atom_size : (c : Clause) (part : Part) (k : ℕ) (a : Atom) → Some a ≡ slice_get (part_of c part) k → clause_symbols c ≤ 4294967295 → atom_symbols a ≤ 4294967295
-atom_size c Constraint k a e h = omega (arith, parts_size c, item_size c.constraint k a e)
-atom_size c Antecedent k a e h = omega (arith, parts_size c, item_size c.antecedent k a e)
-atom_size c Succedent k a e h = omega (arith, parts_size c, item_size c.succedent k a e)
+atom_size c Constraint k a e h = omega (arith, symbols-parts c, item_size c.constraint k a e)
+atom_size c Antecedent k a e h = omega (arith, symbols-parts c, item_size c.antecedent k a e)
+atom_size c Succedent k a e h = omega (arith, symbols-parts c, item_size c.succedent k a e)
 
 -- ---- atoms that aren't S(x)
 
@@ -41,14 +40,10 @@ none_there : (l : List Term) (x : ℕ) → length l < 1 → terms_eq l (Var x �
 none_there [] x h = refl
 none_there (t ∷ l) x h = absurd (omega (arith, h))
 
-and_false : (b : Bool) → (b && false) ≡ false
-and_false true = refl
-and_false false = refl
-
 more_there : (l : List Term) (x : ℕ) → 2 ≤ length l → terms_eq l (Var x ∷ []) ≡ false
 more_there [] x h = absurd (omega (arith, h))
 more_there (t ∷ []) x h = absurd (omega (arith, h))
-more_there (t ∷ u ∷ l) x h = and_false (term_eq t (Var x))
+more_there (t ∷ u ∷ l) x h = and-false (term_eq t (Var x))
 
 application_there : (l : List Term) (d : Term) (f : Symbol) (us : List Term) (x : ℕ) → 1 ≤ length l → get_or l 0 d ≡ App f us → terms_eq l (Var x ∷ []) ≡ false
 application_there [] d f us x h e = absurd (omega (arith, h))

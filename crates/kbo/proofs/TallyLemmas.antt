@@ -4,16 +4,16 @@ use Rattle.std.proofs.lemmas.Bool.{eqb-true, ltb-true, ltb-false, leb-false, lt-
 use Rattle.std.proofs.lemmas.List.{length-set}
 use Rattle.std.proofs.lemmas.List.Sums.{sum_by-cons, get_or-le-sum_by}
 use Rattle.std.proofs.lemmas.Grind.{fold-append}
-use Rattle.spl_terms.proofs.TermLemmas.{term_symbols-Var, term_symbols-App, term_symbols-positive}
-use Rattle.spl_terms.proofs.NumberLemmas.{term_variables-Var, term_variables-App}
+use Rattle.spl_terms.specs.TermLaws.{term_symbols-Var, term_symbols-App, term_symbols-positive, term_variables-Var, term_variables-App}
 use Rattle.kbo.specs.declared.side.Side.{Side}
 use Rattle.kbo.specs.declared.side.Side.TheVariants.{Left, Right}
 use Rattle.spl_truth.specs.Orders.{times, contains_each}
 use Rattle.kbo.specs.declared.order.Order.{Order}
 use Rattle.kbo.specs.declared.order.Order.TheVariants.{Greater, Less, Incomparable}
 use Rattle.kbo.specs.Comparisons.{decided, judged}
-use Rattle.kbo.specs.Tallies.{above, below, raised, lowered, noted, on_left, on_right, is_blind, told, IsEven, IsTally}
-use Rattle.kbo.proofs.TimesLemmas.{times-append, times-cons, times-within, contains_at, contains_all, same_test}
+use Rattle.kbo.specs.Tallies.{above, below, raised, lowered, met_beyond, on_left, on_right, is_blind, told, IsEven, IsTally}
+use Rattle.spl_terms.specs.BoolLaws.{equally}
+use Rattle.kbo.proofs.TimesLemmas.{times-append, times-cons, times-within, contains_at, contains_all}
 
 pub on_left-sum : (s : Side) (a b : ℕ) → on_left s (a + b) ≡ on_left s a + on_left s b
 on_left-sum Left a b = refl
@@ -63,9 +63,9 @@ lowered-all [] bs v h = omega arith
 lowered-all (x ∷ xs) bs v h =
     omega (arith, lowered-all xs (lowered bs x) v (omega (arith, length-lowered bs x)), lowered-once bs x v h, times-cons v x xs)
 
-noted-all : (n : ℕ) (xs : List ℕ) (b : Bool) → fold (noted n) b xs ≡ false → (b ≡ false) × ((v : ℕ) → n ≤ v → times v xs ≡ 0)
-noted-all n [] b e = (e, λ v h. refl)
-noted-all n (x ∷ xs) b e = by_parts b (nat_le n x) refl (noted-all n xs (noted n b x) e)
+met_beyond-all : (n : ℕ) (xs : List ℕ) (b : Bool) → fold (met_beyond n) b xs ≡ false → (b ≡ false) × ((v : ℕ) → n ≤ v → times v xs ≡ 0)
+met_beyond-all n [] b e = (e, λ v h. refl)
+met_beyond-all n (x ∷ xs) b e = by_parts b (nat_le n x) refl (met_beyond-all n xs (met_beyond n b x) e)
   where
     by_parts : (c d : Bool) → nat_le n x ≡ d → (((c || nat_le n x) ≡ false) × ((v : ℕ) → n ≤ v → times v xs ≡ 0)) → (c ≡ false) × ((v : ℕ) → n ≤ v → times v (x ∷ xs) ≡ 0)
     by_parts true d p r = absurd (false≢true (sym r.0))
@@ -90,10 +90,10 @@ module _ (n : ℕ) (bs : List ℕ) (beyond : Bool) (l r : ℕ) where
   }
 
   module _ (vs ws : List ℕ) (a b : ℕ) (t : IsTally n bs beyond l r vs ws a b) (size : length bs ≡ n) where
-    pub left_counted : (xs : List ℕ) (x : ℕ) → length xs ≤ x → IsTally n (fold raised bs xs) (fold (noted n) beyond xs) (l + x) r (vs ++ xs) ws (a + x) b
+    pub left_counted : (xs : List ℕ) (x : ℕ) → length xs ≤ x → IsTally n (fold raised bs xs) (fold (met_beyond n) beyond xs) (l + x) r (vs ++ xs) ws (a + x) b
     left_counted xs x few = record {
       each = λ v h. omega (arith, t.each v h, raised-all xs bs v (omega arith), times-append v vs xs);
-      others = λ p v h. let q = noted-all n xs beyond p in omega (arith, t.others q.0 v h, q.1 v h, times-append v vs xs);
+      others = λ p v h. let q = met_beyond-all n xs beyond p in omega (arith, t.others q.0 v h, q.1 v h, times-append v vs xs);
       weights = omega (arith, t.weights);
       left_within = omega (arith, t.left_within);
       right_within = t.right_within;
@@ -101,10 +101,10 @@ module _ (n : ℕ) (bs : List ℕ) (beyond : Bool) (l r : ℕ) where
       few_right = t.few_right;
     }
 
-    pub right_counted : (xs : List ℕ) (x : ℕ) → length xs ≤ x → b + x ≤ 4294967295 → IsTally n (fold lowered bs xs) (fold (noted n) beyond xs) l (r + x) vs (ws ++ xs) a (b + x)
+    pub right_counted : (xs : List ℕ) (x : ℕ) → length xs ≤ x → b + x ≤ 4294967295 → IsTally n (fold lowered bs xs) (fold (met_beyond n) beyond xs) l (r + x) vs (ws ++ xs) a (b + x)
     right_counted xs x few room = record {
       each = λ v h. omega (arith, t.each v h, lowered-all xs bs v (omega arith), times-append v ws xs, times-within v ws, times-within v xs, t.few_right);
-      others = λ p v h. let q = noted-all n xs beyond p in omega (arith, t.others q.0 v h, q.1 v h, times-append v ws xs);
+      others = λ p v h. let q = met_beyond-all n xs beyond p in omega (arith, t.others q.0 v h, q.1 v h, times-append v ws xs);
       weights = omega (arith, t.weights);
       left_within = t.left_within;
       right_within = omega (arith, t.right_within);
@@ -168,13 +168,13 @@ module _ (n : ℕ) (bs : List ℕ) (beyond : Bool) (l r : ℕ) (vs ws : List ℕ
 
   pub deficit_test : beyond ≡ false → (deficit : ℕ) → deficit ≡ sum_by below bs → (deficit == 0) ≡ contains_each vs ws
   deficit_test known deficit e =
-      same_test (deficit == 0) (contains_each vs ws)
+      equally (deficit == 0) (contains_each vs ws)
       (λ h. no_deficit known (sym e ∙ eqb-true deficit 0 h))
       (λ h. eq-eqb deficit 0 (e ∙ deficit_none h))
 
   pub surplus_test : beyond ≡ false → (surplus : ℕ) → surplus ≡ sum_by above bs → (surplus == 0) ≡ contains_each ws vs
   surplus_test known surplus e =
-      same_test (surplus == 0) (contains_each ws vs)
+      equally (surplus == 0) (contains_each ws vs)
       (λ h. no_surplus known (sym e ∙ eqb-true surplus 0 h))
       (λ h. eq-eqb surplus 0 (e ∙ surplus_none h))
 
@@ -208,10 +208,10 @@ told_known false true walked missing known counted_all = counted_all refl
 told_known false false walked missing known counted_all = counted_all refl
 
 -- what isn't blind after more was counted wasn't before
-pub known_before : (n : ℕ) (walks : Bool) (x y z : Bool) (xs ys : List ℕ) → y ≡ fold (noted n) x xs → z ≡ fold (noted n) y ys → is_blind z walks ≡ false → is_blind x walks ≡ false
+pub known_before : (n : ℕ) (walks : Bool) (x y z : Bool) (xs ys : List ℕ) → y ≡ fold (met_beyond n) x xs → z ≡ fold (met_beyond n) y ys → is_blind z walks ≡ false → is_blind x walks ≡ false
 known_before n true x y z xs ys e h known = never_blind x
 known_before n false x y z xs ys e h known =
-    ap (λ b. b && true) (noted-all n xs x (sym e ∙ (noted-all n ys y (sym h ∙ and_true z known)).0)).0
+    ap (λ b. b && true) (met_beyond-all n xs x (sym e ∙ (met_beyond-all n ys y (sym h ∙ and_true z known)).0)).0
   where
     and_true : (b : Bool) → (b && true) ≡ false → b ≡ false
     and_true true p = p

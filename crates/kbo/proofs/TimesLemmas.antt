@@ -1,9 +1,8 @@
 -- How often numbers stand in lists.
 use Rattle.std.proofs.Common.{◌≡◌, ℕ, ◌+◌, ◌≤◌, ◌<◌, Bool, true, false, ◌&&◌, ◌||◌, ◌==◌, nat_le, if◌then◌else◌, List, [], ◌∷◌, ◌++◌, length, refl, sym, ap, ◌∙◌, arith}
 use Rattle.std.specs.List.{list_all, list_any}
-use Rattle.std.proofs.lemmas.Bool.{eqb-true, le-leb, leb-true, false≢true}
+use Rattle.std.proofs.lemmas.Bool.{eqb-true, le-leb, leb-true, false≢true, and_parts}
 use Rattle.std.proofs.lemmas.List.Sums.{sum_by-append, sum_by-cons, count_by-le-length}
-use Rattle.spl_terms.proofs.TermLemmas.{and-parts}
 use Rattle.spl_truth.specs.Orders.{times, contains_each}
 
 pub times-append : (v : ℕ) (xs ys : List ℕ) → times v (xs ++ ys) ≡ times v xs + times v ys
@@ -41,10 +40,10 @@ none_times v (x ∷ xs) e = by_test (v == x) refl (none_times v xs) e
 
 passes_at : (p : ℕ → Bool) (xs : List ℕ) (v : ℕ) → list_all p xs ≡ true → list_any (λ w. v == w) xs ≡ true → p v ≡ true
 passes_at p [] v e h = absurd (false≢true h)
-passes_at p (x ∷ xs) v e h = by_test (v == x) refl (passes_at p xs v (and-parts _ _ e).1) h
+passes_at p (x ∷ xs) v e h = by_test (v == x) refl (passes_at p xs v (and_parts _ _ e).1) h
   where
     by_test : (b : Bool) → (v == x) ≡ b → (list_any (λ w. v == w) xs ≡ true → p v ≡ true) → (b || list_any (λ w. v == w) xs) ≡ true → p v ≡ true
-    by_test true q more k = ap p (eqb-true v x q) ∙ (and-parts _ _ e).0
+    by_test true q more k = ap p (eqb-true v x q) ∙ (and_parts _ _ e).0
     by_test false q more k = more k
 
 all_pass : (p : ℕ → Bool) (xs : List ℕ) → ((v : ℕ) → p v ≡ true) → list_all p xs ≡ true
@@ -60,8 +59,3 @@ contains_at vs ws e v = by_test (list_any (λ w. v == w) ws) refl
 
 pub contains_all : (vs ws : List ℕ) → ((v : ℕ) → times v ws ≤ times v vs) → contains_each vs ws ≡ true
 contains_all vs ws h = all_pass (λ v. nat_le (times v ws) (times v vs)) ws (λ v. le-leb (times v ws) (times v vs) (h v))
-
-pub same_test : (a b : Bool) → (a ≡ true → b ≡ true) → (b ≡ true → a ≡ true) → a ≡ b
-same_test true b f g = sym (f refl)
-same_test false true f g = g refl
-same_test false false f g = refl

@@ -6,7 +6,8 @@ use Rattle.std.proofs.lemmas.Bool.{eqb-true}
 use Rattle.std.proofs.lemmas.List.Folds.{list_all-append, list_any-append}
 use Rattle.spl_terms.specs.declared.term.Term.{Term, Var}
 use Rattle.spl_terms.specs.Terms.{term_symbols, term_variables}
-use Rattle.spl_terms.proofs.NumberLemmas.{term_variables-Var, term_variables-App, few_in_term}
+use Rattle.spl_terms.specs.TermLaws.{term_variables-Var, term_variables-App}
+use Rattle.spl_terms.specs.SizeLaws.{few_in_terms}
 use Rattle.spl_truth.specs.Orders.{times}
 use Rattle.kbo.proofs.TimesLemmas.{times-append, times-cons, times-within}
 
@@ -22,12 +23,8 @@ times-other v w differ = ap (times v) (term_variables-Var w) ∙ by_test (v == w
     by_test true e = absurd (differ (eqb-true v w e))
     by_test false e = zero-add _ ∙ ap (λ (b : Bool). let none : ℕ = 0 in (if b then 1 else none)) e
 
-pub few_in_lists : (ts : List Term) → length (flat_map term_variables ts) ≤ sum (map term_symbols ts)
-few_in_lists [] = omega arith
-few_in_lists (t ∷ ts) = omega (arith, length-append (term_variables t) (flat_map term_variables ts), sum_by-cons (λ n. n) (term_symbols t) (map term_symbols ts), few_in_lists ts, few_in_term t)
-
 pub few : (v : ℕ) (ts : List Term) → times v (flat_map term_variables ts) ≤ sum (map term_symbols ts)
-few v ts = omega (arith, times-within v (flat_map term_variables ts), few_in_lists ts)
+few v ts = omega (arith, times-within v (flat_map term_variables ts), few_in_terms ts)
 
 pub ruleset times_laws = (term_variables-App, times-append, times-same, times-other)
 

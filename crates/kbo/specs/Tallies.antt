@@ -4,7 +4,9 @@ use Rattle.std.specs.Prelude.{◌≡◌, ℕ, ◌+◌, ◌-◌, ◌<◌, ◌≤�
 use Rattle.std.specs.List.{flat_map}
 use Rattle.spl_terms.specs.declared.term.Term.{Term}
 use Rattle.spl_terms.specs.Terms.{term_symbols, term_variables}
-use Rattle.spl_truth.specs.Orders.{times}
+use Rattle.spl_truth.specs.Orders.{times, contains_each}
+use Rattle.kbo.specs.declared.order.Order.{Order}
+use Rattle.kbo.specs.declared.order.Order.TheVariants.{Incomparable}
 use Rattle.kbo.specs.declared.side.Side.{Side}
 use Rattle.kbo.specs.declared.side.Side.TheVariants.{Left, Right}
 
@@ -22,12 +24,13 @@ abbrev pub lowered : List ℕ → ℕ → List ℕ
 lowered bs v = slice_set bs v (slice_index bs v - 1)
 
 -- the balances after one more occurrence of the variable on a side; a variable past the end has no balance
-abbrev pub counted : Side → List ℕ → ℕ → List ℕ
-counted Left = raised
-counted Right = lowered
+abbrev pub rebalanced : Side → List ℕ → ℕ → List ℕ
+rebalanced Left = raised
+rebalanced Right = lowered
 
-abbrev pub noted : ℕ → Bool → ℕ → Bool
-noted n beyond v = beyond || nat_le n v
+-- a variable was met that has no balance
+abbrev pub met_beyond : ℕ → Bool → ℕ → Bool
+met_beyond n beyond v = beyond || nat_le n v
 
 abbrev pub on_left : Side → ℕ → ℕ
 on_left Left n = n
@@ -44,6 +47,22 @@ is_blind beyond walks = beyond && not walks
 -- what a tally tells of a side: what a walk finds, where there is one to make, or that nothing is missing
 abbrev pub told : Bool → Bool → ℕ → Bool → Bool
 told beyond walks missing walked = if beyond && walks then walked else (missing == 0)
+
+-- ---- two lists of terms
+
+-- each variable occurs in the terms as often as in the others, or more often
+abbrev pub contains_variables : List Term → List Term → Bool
+contains_variables terms others = contains_each (flat_map term_variables terms) (flat_map term_variables others)
+
+-- the same of one variable
+abbrev pub is_as_often : List Term → List Term → ℕ → Bool
+is_as_often terms others v = nat_le (times v (flat_map term_variables others)) (times v (flat_map term_variables terms))
+
+-- the order, if the test says so
+abbrev pub order_if : Bool → Order → Order
+order_if yes o = if yes then o else Incomparable
+
+-- ---- what a tally stands for
 
 -- a tally of nothing
 pub record IsEven (n : ℕ) (balances : List ℕ) (beyond : Bool) (left right : ℕ) : Type 0 where

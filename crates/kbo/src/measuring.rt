@@ -1,13 +1,13 @@
 //! The measures of occurrences of atoms in a clause, and which of two is greater.
-ghost use Rattle.std.specs.Prelude.{◌≡◌, ◌≤◌, ◌&&◌, ◌||◌, ◌==◌, not};
+ghost use Rattle.std.specs.Prelude.{◌≡◌, ◌≤◌, ◌&&◌};
 ghost use Rattle.std.specs.List.{list_any, list_all};
 ghost use Rattle.spl_terms.specs.Terms.{term_symbols};
 ghost use Rattle.spl_terms.specs.Clauses.{atom_symbols};
 ghost use Rattle.spl_truth.specs.Orders.{is_greater};
-ghost use Rattle.spl_truth.specs.Multisets.{multiplicity, minus, differ, is_greater_multiset};
-ghost use Rattle.spl_truth.specs.Places.{members, measure};
+ghost use Rattle.spl_truth.specs.Multisets.{multiplicity, minus, is_greater_multiset};
+ghost use Rattle.spl_truth.specs.Places.{members};
 ghost use Rattle.kbo.specs.Views.{term_of};
-ghost use Rattle.kbo.specs.Measures.{copies, exceeds, prevails};
+ghost use Rattle.kbo.specs.Measures.{copies, exceeds, prevails, measure_of, has_greater, is_settled, tells_apart};
 
 use crate::comparing::{compare_views, same_view};
 use crate::order::Order;
@@ -59,14 +59,14 @@ fn times_among(view: View, atom: &Atom) -> u8
 
 impl<'a> Occurrence<'a> {
     fn multiplicity(self, view: View) -> u8
-        ensures { result ≡ multiplicity (term_of view.entry) (measure self.entry.part self.entry.atom.now) }
+        ensures { result ≡ multiplicity (term_of view.entry) (measure_of self.entry) }
     {
         copies(self.part) * times_among(view, self.atom)
     }
 
     // Whether the term stands more often in this measure than in the other one.
     fn exceeds(self, other: Occurrence, view: View) -> bool
-        ensures { result ≡ exceeds (measure self.entry.part self.entry.atom.now) (measure other.entry.part other.entry.atom.now) (term_of view.entry) }
+        ensures { result ≡ exceeds (measure_of self.entry) (measure_of other.entry) (term_of view.entry) }
     {
         self.multiplicity(view) > other.multiplicity(view)
     }
@@ -75,7 +75,8 @@ impl<'a> Occurrence<'a> {
     fn beats_by(self, other: Occurrence, member: View, view: View) -> bool
         requires size { term_symbols (term_of member) ≤ 4294967295 }
         requires view_size { term_symbols (term_of view) ≤ 4294967295 }
-        ensures { result ≡ (exceeds (measure self.entry.part self.entry.atom.now) (measure other.entry.part other.entry.atom.now) (term_of member.entry) && is_greater (term_of member.entry) (term_of view.entry)) }
+        ensures { result ≡ (exceeds (measure_of self.entry) (measure_of other.entry) (term_of member.entry)
+            && is_greater (term_of member.entry) (term_of view.entry)) }
     {
         match compare_views(member, view) {
             Order::Greater => self.exceeds(other, member),
@@ -87,7 +88,7 @@ impl<'a> Occurrence<'a> {
     fn beats(self, other: Occurrence, view: View) -> bool
         requires size { atom_symbols self.atom.now ≤ 4294967295 }
         requires view_size { term_symbols (term_of view) ≤ 4294967295 }
-        ensures { result ≡ list_any (λ m. is_greater m (term_of view.entry)) (minus (measure self.entry.part self.entry.atom.now) (measure other.entry.part other.entry.atom.now)) }
+        ensures { result ≡ has_greater (measure_of self.entry) (measure_of other.entry) (term_of view.entry) }
     {
         match self.atom {
             Atom::Holds(predicate, args) => {
@@ -104,7 +105,7 @@ impl<'a> Occurrence<'a> {
     fn settles(self, other: Occurrence, view: View) -> bool
         requires size { atom_symbols self.atom.now ≤ 4294967295 }
         requires view_size { term_symbols (term_of view) ≤ 4294967295 }
-        ensures { result ≡ (not (exceeds (measure other.entry.part other.entry.atom.now) (measure self.entry.part self.entry.atom.now) (term_of view.entry)) || list_any (λ m. is_greater m (term_of view.entry)) (minus (measure self.entry.part self.entry.atom.now) (measure other.entry.part other.entry.atom.now))) }
+        ensures { result ≡ is_settled (measure_of self.entry) (measure_of other.entry) (term_of view.entry) }
     {
         !other.exceeds(self, view) || self.beats(other, view)
     }
@@ -112,7 +113,8 @@ impl<'a> Occurrence<'a> {
     fn settles_all(self, other: Occurrence) -> bool
         requires size { atom_symbols self.atom.now ≤ 4294967295 }
         requires other_size { atom_symbols other.atom.now ≤ 4294967295 }
-        ensures { result ≡ list_all (λ n. list_any (λ m. is_greater m n) (minus (measure self.entry.part self.entry.atom.now) (measure other.entry.part other.entry.atom.now))) (minus (measure other.entry.part other.entry.atom.now) (measure self.entry.part self.entry.atom.now)) }
+        ensures { result ≡ list_all (λ n. has_greater (measure_of self.entry) (measure_of other.entry) n)
+            (minus (measure_of other.entry) (measure_of self.entry)) }
     {
         match other.atom {
             Atom::Holds(predicate, args) => {
@@ -126,14 +128,14 @@ impl<'a> Occurrence<'a> {
 
     // Whether the term doesn't stand equally often in both measures.
     fn tells_apart(self, other: Occurrence, view: View) -> bool
-        ensures { result ≡ not (multiplicity (term_of view.entry) (measure self.entry.part self.entry.atom.now) == multiplicity (term_of view.entry) (measure other.entry.part other.entry.atom.now)) }
+        ensures { result ≡ tells_apart (measure_of self.entry) (measure_of other.entry) (term_of view.entry) }
     {
         self.multiplicity(view) != other.multiplicity(view)
     }
 
     // Whether a member of one of the atoms doesn't stand equally often in both measures.
     fn differs_at(self, other: Occurrence, atom: &Atom) -> bool
-        ensures { result ≡ list_any (λ t. not (multiplicity t (measure self.entry.part self.entry.atom.now) == multiplicity t (measure other.entry.part other.entry.atom.now))) (members atom.now) }
+        ensures { result ≡ list_any (λ t. tells_apart (measure_of self.entry) (measure_of other.entry) t) (members atom.now) }
     {
         match atom {
             Atom::Holds(predicate, args) => {
@@ -149,7 +151,7 @@ impl<'a> Occurrence<'a> {
     fn outweighs(self, other: Occurrence) -> bool
         requires size { atom_symbols self.atom.now ≤ 4294967295 }
         requires other_size { atom_symbols other.atom.now ≤ 4294967295 }
-        ensures { result ≡ is_greater_multiset (measure self.entry.part self.entry.atom.now) (measure other.entry.part other.entry.atom.now) }
+        ensures { result ≡ is_greater_multiset (measure_of self.entry) (measure_of other.entry) }
     {
         self.settles_all(other)
             && (self.differs_at(other, self.atom) || self.differs_at(other, other.atom))
@@ -160,7 +162,7 @@ impl<'a> Occurrence<'a> {
     pub(crate) fn is_greater(self, other: Occurrence) -> bool
         requires size { atom_symbols self.atom.now ≤ 4294967295 }
         requires other_size { atom_symbols other.atom.now ≤ 4294967295 }
-        ensures { result ≡ is_greater_multiset (measure self.entry.part self.entry.atom.now) (measure other.entry.part other.entry.atom.now) }
+        ensures { result ≡ is_greater_multiset (measure_of self.entry) (measure_of other.entry) }
     {
         match (self.atom, other.atom) {
             (Atom::Holds(predicate, args), Atom::Holds(second, others)) => {

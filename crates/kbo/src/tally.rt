@@ -2,9 +2,8 @@
 ghost use Rattle.std.specs.Prelude.{◌≡◌, ◌+◌, ◌<◌, ◌≤◌, fold, length, sum, map, sum_by, nat_lt, if◌then◌else◌};
 ghost use Rattle.std.specs.List.{flat_map};
 ghost use Rattle.spl_terms.specs.Terms.{term_symbols, term_variables};
-ghost use Rattle.spl_truth.specs.Orders.{contains_each};
 ghost use Rattle.kbo.specs.Comparisons.{judged};
-ghost use Rattle.kbo.specs.Tallies.{above, below, raised, lowered, counted, noted, on_left, on_right, is_blind, told, IsEven, TalliesLists};
+ghost use Rattle.kbo.specs.Tallies.{above, below, raised, lowered, rebalanced, met_beyond, on_left, on_right, is_blind, told, contains_variables, order_if, IsEven, TalliesLists};
 
 use crate::order::Order;
 use crate::side::Side;
@@ -58,7 +57,7 @@ impl<const N: usize> Tally<N> {
     fn raise(&mut self, variable: u32)
         requires { self.old.left < 4294967295 }
         ensures balances { self.new.balances ≡ raised self.old.balances variable }
-        ensures beyond { self.new.beyond ≡ noted N self.old.beyond variable }
+        ensures beyond { self.new.beyond ≡ met_beyond N self.old.beyond variable }
         ensures left { self.new.left ≡ self.old.left + 1 }
         ensures right { self.new.right ≡ self.old.right }
     {
@@ -81,7 +80,7 @@ impl<const N: usize> Tally<N> {
     fn lower(&mut self, variable: u32)
         requires { self.old.right < 4294967295 }
         ensures balances { self.new.balances ≡ lowered self.old.balances variable }
-        ensures beyond { self.new.beyond ≡ noted N self.old.beyond variable }
+        ensures beyond { self.new.beyond ≡ met_beyond N self.old.beyond variable }
         ensures left { self.new.left ≡ self.old.left }
         ensures right { self.new.right ≡ self.old.right + 1 }
     {
@@ -103,8 +102,8 @@ impl<const N: usize> Tally<N> {
     fn count_variable(&mut self, side: Side, variable: u32)
         requires left_room { self.old.left + on_left side 1 ≤ 4294967295 }
         requires right_room { self.old.right + on_right side 1 ≤ 4294967295 }
-        ensures balances { self.new.balances ≡ counted side self.old.balances variable }
-        ensures beyond { self.new.beyond ≡ noted N self.old.beyond variable }
+        ensures balances { self.new.balances ≡ rebalanced side self.old.balances variable }
+        ensures beyond { self.new.beyond ≡ met_beyond N self.old.beyond variable }
         ensures left { self.new.left ≡ self.old.left + on_left side 1 }
         ensures right { self.new.right ≡ self.old.right + on_right side 1 }
     {
@@ -135,8 +134,8 @@ impl<const N: usize> Tally<N> {
     pub(crate) fn count(&mut self, side: Side, term: &Term)
         requires left_room { self.old.left + on_left side (term_symbols term.now) ≤ 4294967295 }
         requires right_room { self.old.right + on_right side (term_symbols term.now) ≤ 4294967295 }
-        ensures balances { self.new.balances ≡ fold (counted side) self.old.balances (term_variables term.now) }
-        ensures beyond { self.new.beyond ≡ fold (noted N) self.old.beyond (term_variables term.now) }
+        ensures balances { self.new.balances ≡ fold (rebalanced side) self.old.balances (term_variables term.now) }
+        ensures beyond { self.new.beyond ≡ fold (met_beyond N) self.old.beyond (term_variables term.now) }
         ensures left { self.new.left ≡ self.old.left + on_left side (term_symbols term.now) }
         ensures right { self.new.right ≡ self.old.right + on_right side (term_symbols term.now) }
     {
@@ -155,8 +154,8 @@ impl<const N: usize> Tally<N> {
     pub(crate) fn count_all(&mut self, side: Side, terms: &[Term])
         requires left_room { self.old.left + on_left side (sum (map term_symbols terms.now)) ≤ 4294967295 }
         requires right_room { self.old.right + on_right side (sum (map term_symbols terms.now)) ≤ 4294967295 }
-        ensures balances { self.new.balances ≡ fold (counted side) self.old.balances (flat_map term_variables terms.now) }
-        ensures beyond { self.new.beyond ≡ fold (noted N) self.old.beyond (flat_map term_variables terms.now) }
+        ensures balances { self.new.balances ≡ fold (rebalanced side) self.old.balances (flat_map term_variables terms.now) }
+        ensures beyond { self.new.beyond ≡ fold (met_beyond N) self.old.beyond (flat_map term_variables terms.now) }
         ensures left { self.new.left ≡ self.old.left + on_left side (sum (map term_symbols terms.now)) }
         ensures right { self.new.right ≡ self.old.right + on_right side (sum (map term_symbols terms.now)) }
     {
@@ -176,7 +175,7 @@ impl<const N: usize> Tally<N> {
     fn left_contains(&self, terms: &[Term], others: &[Term]) -> bool
         requires terms_size { sum (map term_symbols terms.now) ≤ 4294967295 }
         requires others_size { sum (map term_symbols others.now) ≤ 4294967295 }
-        ensures { result ≡ told self.now.beyond (nat_lt 64 N) self.now.deficit (contains_each (flat_map term_variables terms.now) (flat_map term_variables others.now)) }
+        ensures { result ≡ told self.now.beyond (nat_lt 64 N) self.now.deficit (contains_variables terms.now others.now) }
     {
         if self.beyond && N > FEW {
             contains_each(terms, others)
@@ -189,7 +188,7 @@ impl<const N: usize> Tally<N> {
     fn right_contains(&self, terms: &[Term], others: &[Term]) -> bool
         requires terms_size { sum (map term_symbols terms.now) ≤ 4294967295 }
         requires others_size { sum (map term_symbols others.now) ≤ 4294967295 }
-        ensures { result ≡ told self.now.beyond (nat_lt 64 N) self.now.surplus (contains_each (flat_map term_variables others.now) (flat_map term_variables terms.now)) }
+        ensures { result ≡ told self.now.beyond (nat_lt 64 N) self.now.surplus (contains_variables others.now terms.now) }
     {
         if self.beyond && N > FEW {
             contains_each(others, terms)
@@ -201,7 +200,8 @@ impl<const N: usize> Tally<N> {
     fn if_left_contains(&self, terms: &[Term], others: &[Term]) -> Order
         requires terms_size { sum (map term_symbols terms.now) ≤ 4294967295 }
         requires others_size { sum (map term_symbols others.now) ≤ 4294967295 }
-        ensures { result ≡ (if told self.now.beyond (nat_lt 64 N) self.now.deficit (contains_each (flat_map term_variables terms.now) (flat_map term_variables others.now)) then Order.Greater else Order.Incomparable) }
+        ensures { result ≡ order_if
+            (told self.now.beyond (nat_lt 64 N) self.now.deficit (contains_variables terms.now others.now)) Order.Greater }
     {
         if self.left_contains(terms, others) {
             Order::Greater
@@ -213,7 +213,8 @@ impl<const N: usize> Tally<N> {
     fn if_right_contains(&self, terms: &[Term], others: &[Term]) -> Order
         requires terms_size { sum (map term_symbols terms.now) ≤ 4294967295 }
         requires others_size { sum (map term_symbols others.now) ≤ 4294967295 }
-        ensures { result ≡ (if told self.now.beyond (nat_lt 64 N) self.now.surplus (contains_each (flat_map term_variables others.now) (flat_map term_variables terms.now)) then Order.Less else Order.Incomparable) }
+        ensures { result ≡ order_if
+            (told self.now.beyond (nat_lt 64 N) self.now.surplus (contains_variables others.now terms.now)) Order.Less }
     {
         if self.right_contains(terms, others) {
             Order::Less
@@ -229,7 +230,10 @@ impl<const N: usize> Tally<N> {
         requires tally { TalliesLists N self.now.balances self.now.beyond self.now.left self.now.right terms.now others.now }
         requires terms_size { sum (map term_symbols terms.now) ≤ 4294967295 }
         requires others_size { sum (map term_symbols others.now) ≤ 4294967295 }
-        ensures { result ≡ judged (told self.now.beyond (nat_lt 64 N) self.now.deficit (contains_each (flat_map term_variables terms.now) (flat_map term_variables others.now))) (told self.now.beyond (nat_lt 64 N) self.now.surplus (contains_each (flat_map term_variables others.now) (flat_map term_variables terms.now))) (sum (map term_symbols terms.now)) (sum (map term_symbols others.now)) lower }
+        ensures { result ≡ judged
+            (told self.now.beyond (nat_lt 64 N) self.now.deficit (contains_variables terms.now others.now))
+            (told self.now.beyond (nat_lt 64 N) self.now.surplus (contains_variables others.now terms.now))
+            (sum (map term_symbols terms.now)) (sum (map term_symbols others.now)) lower }
     {
         if self.left > self.right {
             return self.if_left_contains(terms, others);

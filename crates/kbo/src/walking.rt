@@ -1,8 +1,9 @@
 //! Occurrences of variables counted by walks, for terms with more variables than a tally counts.
-ghost use Rattle.std.specs.Prelude.{◌≡◌, ◌==◌, ◌≤◌, min, sum, map, nat_le};
+ghost use Rattle.std.specs.Prelude.{◌≡◌, ◌==◌, ◌≤◌, min, sum, map};
 ghost use Rattle.std.specs.List.{list_any, list_all, flat_map};
 ghost use Rattle.spl_terms.specs.Terms.{term_symbols, term_variables};
 ghost use Rattle.spl_truth.specs.Orders.{times, contains_each};
+ghost use Rattle.kbo.specs.Tallies.{is_as_often};
 
 use spl_terms::Term;
 
@@ -59,7 +60,7 @@ fn times_in(variable: u32, terms: &[Term]) -> u64
 fn no_more_often(variable: u32, terms: &[Term], others: &[Term]) -> bool
     requires terms_size { sum (map term_symbols terms.now) ≤ 4294967295 }
     requires others_size { sum (map term_symbols others.now) ≤ 4294967295 }
-    ensures { result ≡ nat_le (times variable (flat_map term_variables others.now)) (times variable (flat_map term_variables terms.now)) }
+    ensures { result ≡ is_as_often terms.now others.now variable }
 {
     times_in(variable, others) <= times_in(variable, terms)
 }
@@ -69,7 +70,7 @@ fn no_more_often(variable: u32, terms: &[Term], others: &[Term]) -> bool
 fn covers_term(part: &Term, terms: &[Term], others: &[Term]) -> bool
     requires terms_size { sum (map term_symbols terms.now) ≤ 4294967295 }
     requires others_size { sum (map term_symbols others.now) ≤ 4294967295 }
-    ensures { result ≡ list_all (λ v. nat_le (times v (flat_map term_variables others.now)) (times v (flat_map term_variables terms.now))) (term_variables part.now) }
+    ensures { result ≡ list_all (λ v. is_as_often terms.now others.now v) (term_variables part.now) }
 {
     match part {
         Term::Var(variable) => no_more_often(*variable, terms, others),
@@ -82,7 +83,7 @@ fn covers_term(part: &Term, terms: &[Term], others: &[Term]) -> bool
 fn covers_parts(parts: &[Term], terms: &[Term], others: &[Term]) -> bool
     requires terms_size { sum (map term_symbols terms.now) ≤ 4294967295 }
     requires others_size { sum (map term_symbols others.now) ≤ 4294967295 }
-    ensures { result ≡ list_all (λ v. nat_le (times v (flat_map term_variables others.now)) (times v (flat_map term_variables terms.now))) (flat_map term_variables parts.now) }
+    ensures { result ≡ list_all (λ v. is_as_often terms.now others.now v) (flat_map term_variables parts.now) }
 {
     for part in parts {
         if !covers_term(part, terms, others) {

@@ -7,17 +7,18 @@ use Rattle.spl_terms.specs.declared.term.Term.{Term, Var}
 use Rattle.spl_terms.specs.declared.atom.Atom.{Atom}
 use Rattle.spl_terms.specs.declared.clause.Clause.{Clause}
 use Rattle.spl_terms.specs.Terms.{is_ground_term, replace}
-use Rattle.spl_terms.specs.Clauses.{atoms_of, distinct, at_lists, replace_in, number_in, in_order}
-use Rattle.spl_truth.specs.Truth.{IsGroundInstance, IsUsable, truth, holds, atom_eq, FollowsAt, Follows}
-use Rattle.spl_truth.proofs.Replacing.{and_parts, AllGround, ground-replace, clause-replace-replace}
-use Rattle.spl_truth.proofs.Truths.{clause_flips, truth-distinct}
+use Rattle.spl_terms.specs.Clauses.{atoms_of, distinct, at_lists, replace_in, number_in, in_order, atom_eq}
+use Rattle.spl_truth.specs.Truth.{IsGroundInstance, IsUsable, truth, holds, FollowsAt, Follows}
+use Rattle.std.proofs.lemmas.Bool.{and_parts}
+use Rattle.spl_truth.specs.InstanceLaws.{AllGround, ground-replace, clause-replace-replace}
+use Rattle.spl_truth.specs.TruthLaws.{clause_flips, truth-distinct}
 use Rattle.clause_parts.specs.Parts.{Parted, component, part_by, variable_lists, has_succedent, leaves_succedent, first_head, if_rest, left_marks, parted_by, parts_of}
 use Rattle.proof_steps.specs.Steps.{joined}
 use Rattle.proof_steps.proofs.Steps.{some_inj}
-use Rattle.clause_parts.proofs.Marks.{length-component}
+use Rattle.clause_parts.specs.MarkLaws.{length-component}
 use Rattle.proof_steps.proofs.Options.{chosen, mapped, chained}
 use Rattle.proof_steps.proofs.Resolution.{clause_flips-usable, at_ground, grounded_instance, either_joined}
-use Rattle.clause_parts.proofs.Joint.{both, is_in}
+use Rattle.clause_parts.specs.JointLaws.{both, is_in}
 use Rattle.proof_steps.proofs.PartTruths.{jointly, jointly_left, jointly_right, truth_parted}
 
 -- ---- the marks of the left part are a component

@@ -1,11 +1,10 @@
 -- What the code of the rules on splits needs.
 use Rattle.std.proofs.Common.{◌≡◌, ◌⊎◌, inl, inr, ◌↔◌, ℕ, Bool, true, false, ◌&&◌, ◌==◌, if◌then◌else◌, IsTrue, List, [], ◌∷◌, map, not, length, Option, Some, None, option_map, option_and_then, refl, sym, ap, ◌∙◌}
-use Rattle.std.proofs.lemmas.Bool.{false_from_ne_true, eqb-true}
+use Rattle.std.proofs.lemmas.Bool.{false_from_ne_true, eqb-true, and_parts}
 use Rattle.spl_terms.specs.declared.atom.Atom.{Atom}
 use Rattle.spl_terms.specs.declared.clause.Clause.{Clause}
 use Rattle.spl_terms.specs.Clauses.{no_atoms, is_empty, IsEmpty, in_order}
 use Rattle.spl_truth.specs.Truth.{is_ground}
-use Rattle.spl_truth.proofs.Replacing.{and_parts}
 use Rattle.dep_sets.specs.declared.deps.Assumption.{Assumption}
 use Rattle.dep_sets.specs.Assumptions.{united, without_assumption}
 use Rattle.clause_parts.specs.Parts.{Parted, part_by, part_of_side, parted_by, left_marks, parts_of, negation, negated_atom}

@@ -1,12 +1,13 @@
 -- Where a side of a split is closed, the other part follows; where both are, the empty clause does.
 use Rattle.std.proofs.Common.{◌≡◌, ◌⊎◌, inl, inr, ℕ, Bool, true, false, ◌&&◌, ◌==◌, if◌then◌else◌, List, [], ◌∷◌, Contains, Option, Some, None, refl, sym, subst, ◌∙◌}
 use Rattle.std.specs.List.{list_any}
-use Rattle.std.proofs.lemmas.Bool.{eqb-true}
+use Rattle.std.proofs.lemmas.Bool.{eqb-true, and_parts}
 use Rattle.spl_terms.specs.declared.atom.Atom.{Atom}
 use Rattle.spl_terms.specs.declared.clause.Clause.{Clause}
-use Rattle.spl_terms.specs.Clauses.{replace_in, IsEmpty}
-use Rattle.spl_truth.specs.Truth.{is_ground, IsGroundInstance, holds, atom_eq, FollowsAt, Follows}
-use Rattle.spl_truth.proofs.Replacing.{and_parts, constant, ground-App}
+use Rattle.spl_terms.specs.Clauses.{replace_in, IsEmpty, atom_eq}
+use Rattle.spl_truth.specs.Truth.{is_ground, IsGroundInstance, holds, FollowsAt, Follows}
+use Rattle.spl_truth.specs.InstanceLaws.{constant}
+use Rattle.spl_terms.specs.TermLaws.{ground-App}
 use Rattle.clause_parts.specs.Parts.{Parted, parts_of}
 use Rattle.clause_parts.specs.Sides.{SplitPart, negations, side_clauses, place_of, assumed}
 use Rattle.clause_parts.specs.SideLaws.{two_parts, side_clauses-two}

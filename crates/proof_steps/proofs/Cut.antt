@@ -1,13 +1,13 @@
 -- A clause that follows may be left out; and proof by cases on a part of a clause.
 use Rattle.std.proofs.Common.{◌≡◌, ◌⊎◌, inl, inr, Bool, true, false, ◌||◌, List, [], ◌∷◌, ◌++◌, All, Contains, refl, sym, ◌∙◌}
 use Rattle.std.specs.List.{list_all, list_any, AllByRecursion}
-use Rattle.std.proofs.lemmas.Bool.{false≢true}
+use Rattle.std.proofs.lemmas.Bool.{false≢true, and_parts, and_from}
 use Rattle.std.proofs.lemmas.List.Folds.{list_all-append}
 use Rattle.std.proofs.lemmas.List.Elements.{All-nil, All-cons, All-append, All-head, All-tail}
 use Rattle.spl_terms.specs.declared.atom.Atom.{Atom}
 use Rattle.spl_terms.specs.declared.clause.Clause.{Clause}
-use Rattle.spl_truth.specs.Truth.{IsGroundInstance, IsUsable, holds, atom_eq, FollowsAt, Follows}
-use Rattle.spl_truth.proofs.Replacing.{and_parts, and_both}
+use Rattle.spl_terms.specs.Clauses.{atom_eq}
+use Rattle.spl_truth.specs.Truth.{IsGroundInstance, IsUsable, holds, FollowsAt, Follows}
 use Rattle.proof_steps.specs.Steps.{joined}
 use Rattle.proof_steps.proofs.Resolution.{negative, truth-joined}
 
@@ -23,7 +23,7 @@ gather clauses ok (x ∷ xs) backed =
     let rest = gather clauses ok xs backed.1 in (
       one.0 ++ rest.0,
       All-append (IsUsable clauses) one.0 rest.0 one.1 rest.1,
-      λ a o e. let p = and_parts _ _ (sym (list_all-append (holds a) one.0 rest.0) ∙ e) in and_both _ _ (one.2 a o p.0) (rest.2 a o p.1),
+      λ a o e. let p = and_parts _ _ (sym (list_all-append (holds a) one.0 rest.0) ∙ e) in and_from _ _ (one.2 a o p.0) (rest.2 a o p.1),
     )
 
 -- each of a usable list is backed, where each usable clause is

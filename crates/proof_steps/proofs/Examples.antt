@@ -8,11 +8,16 @@ use Rattle.spl_terms.specs.declared.clause.Part.TheVariants.{Constraint, Anteced
 use Rattle.proof_steps.specs.declared.step.Statement.{Statement}
 use Rattle.proof_steps.specs.declared.step.Rule.{Rule}
 use Rattle.proof_steps.specs.declared.step.Rule.TheVariants.{Input, Resolve, Factor, Paramodulate, Reflex, EqFactor, Assume, CaseLeft, CaseRight, CaseBoth}
-use Rattle.clause_parts.proofs.Examples.{folds, constant, a, b, holds, clause, either, parts_either, linked, parts_linked}
+use Rattle.spl_terms.specs.declared.term.Term.TheViews.{outs-Var, outs-App}
+use Rattle.spl_terms.specs.TermLaws.{term_eq-Var-Var, term_eq-Var-App, term_eq-App-Var, term_eq-App-App, term_variables-Var, term_variables-App, replace-Var, replace-App, ground-Var, ground-App}
+use Rattle.clause_parts.specs.ExampleLaws.{constant, a, b, holds, clause, either, parts_either, linked, parts_linked}
 use Rattle.proof_steps.specs.Steps.{states, side_of, conclude}
 use Rattle.proof_steps.specs.SplitLaws as split
 
 -- ---- the words of the examples
+
+-- how the definitions by recursion on terms compute
+pub ruleset folds = (term_eq-Var-Var, term_eq-Var-App, term_eq-App-Var, term_eq-App-App, term_variables-Var, term_variables-App, replace-Var, replace-App, ground-Var, ground-App, outs-Var, outs-App)
 
 abbrev c : Term
 c = constant 2

@@ -2,22 +2,22 @@
 use Rattle.std.proofs.Common.{◌≡◌, inl, inr, ℕ, zero, suc, ◌+◌, ◌-◌, ◌<◌, ◌≤◌, Bool, true, false, not, ◌||◌, if◌then◌else◌, List, [], ◌∷◌, ◌++◌, length, map, Contains, Some, option_map, refl, sym, ap, subst, ◌∙◌, arith, length-append}
 use Rattle.std.specs.List.{list_all, list_any, slice_get}
 use Rattle.std.specs.Prelude.{nat_lt}
-use Rattle.std.proofs.lemmas.Bool.{ltb-true, ltb-false}
+use Rattle.std.proofs.lemmas.Bool.{ltb-true, ltb-false, and_parts, or_right}
 use Rattle.std.proofs.lemmas.List.Elements.{Contains-append_left, Contains-append_right, Contains-append_cases, All-nil}
 use Rattle.spl_terms.specs.declared.term.Term.{Term}
 use Rattle.spl_terms.specs.declared.atom.Atom.{Atom}
 use Rattle.spl_terms.specs.declared.clause.Clause.{Clause}
-use Rattle.spl_terms.specs.Clauses.{atom_variables, atoms_of, is_of_sort, replace_in_atom, replace_in, in_order}
-use Rattle.spl_truth.specs.Truth.{is_ground_atom, is_ground, IsGroundInstance, IsUsable, truth, atom_eq, FollowsAt}
-use Rattle.spl_truth.proofs.Replacing.{and_parts, at_each, atom-replace-replace}
+use Rattle.spl_terms.specs.Clauses.{atom_variables, atoms_of, is_of_sort, replace_in_atom, replace_in, in_order, atom_eq}
+use Rattle.spl_truth.specs.Truth.{is_ground_atom, is_ground, IsGroundInstance, IsUsable, truth, FollowsAt}
+use Rattle.spl_truth.specs.InstanceLaws.{at_each, atom-replace-replace}
 use Rattle.clause_parts.specs.Parts.{as_true, as_false, negation, negated_atom}
 use Rattle.proof_steps.specs.Steps.{joined}
 use Rattle.clause_parts.specs.Sides.{negations}
 use Rattle.proof_steps.proofs.Steps.{ground_atom, no_numbers}
-use Rattle.clause_parts.proofs.Marks.{get-front, get-behind}
+use Rattle.spl_terms.specs.ListLaws.{get-left, get-behind}
 use Rattle.proof_steps.proofs.Options.{mapped, Contains-get}
 use Rattle.proof_steps.proofs.Resolution.{negative, either_joined}
-use Rattle.clause_parts.proofs.Joint.{agree_atom, or_true}
+use Rattle.clause_parts.specs.JointLaws.{agree_atom}
 
 -- ---- elements
 
@@ -41,7 +41,7 @@ all_contains p (y ∷ xs) x all (suc k, h, e) = all_contains p xs x (and_parts (
 any_contains : (p : Atom → Bool) (g : ℕ → Term) (xs : List Atom) (x : Atom) → Contains xs x → p (replace_in_atom g x) ≡ true → list_any p (at_each g xs) ≡ true
 any_contains p g [] x (k, h, e) t = absurd (omega (arith, h))
 any_contains p g (y ∷ xs) x (zero, h, e) t = ap (λ b. b || list_any p (at_each g xs)) (ap (λ z. p (replace_in_atom g z)) e ∙ t)
-any_contains p g (y ∷ xs) x (suc k, h, e) t = or_true (p (replace_in_atom g y)) (list_any p (at_each g xs)) (any_contains p g xs x (k, omega (arith, h), e) t)
+any_contains p g (y ∷ xs) x (suc k, h, e) t = or_right (p (replace_in_atom g y)) (list_any p (at_each g xs)) (any_contains p g xs x (k, omega (arith, h), e) t)
 
 -- ---- atoms without variables
 
@@ -86,7 +86,7 @@ or_left a b e = ap (λ z. z || b) e
 -- what is true where t is, or else where t isn't
 either_way : (t x d : Bool) → (t ≡ true → x ≡ true) → (t ≡ false → d ≡ true) → (x || d) ≡ true
 either_way true x d h k = or_left x d (h refl)
-either_way false x d h k = or_true x d (k refl)
+either_way false x d h k = or_right x d (k refl)
 
 module _ (left : Clause) (ground : is_ground left ≡ true) where
   in_front : (a : Atom) → Contains (left.constraint ++ left.antecedent) a → is_ground_atom a ≡ true
@@ -106,7 +106,7 @@ module _ (left : Clause) (ground : is_ground left ≡ true) where
         or_left (negative b (replace_in g left)) (list_any b (at_each g left.succedent))
         (elim (Contains-append_cases left.constraint left.antecedent a there) [
           | inl h ↦ or_left (list_any (λ x. not (b x)) (at_each g left.constraint)) (list_any (λ x. not (b x)) (at_each g left.antecedent)) (any_contains (λ x. not (b x)) g left.constraint a h untrue)
-          | inr h ↦ or_true (list_any (λ x. not (b x)) (at_each g left.constraint)) (list_any (λ x. not (b x)) (at_each g left.antecedent)) (any_contains (λ x. not (b x)) g left.antecedent a h untrue)
+          | inr h ↦ or_right (list_any (λ x. not (b x)) (at_each g left.constraint)) (list_any (λ x. not (b x)) (at_each g left.antecedent)) (any_contains (λ x. not (b x)) g left.antecedent a h untrue)
         ]))
 
     -- where the atom is true, the clause is
@@ -114,7 +114,7 @@ module _ (left : Clause) (ground : is_ground left ≡ true) where
     false_joined a there =
         either_way (not (b (replace_in_atom g a))) (truth b (replace_in k (in_order (as_false a)))) (truth b (replace_in g left))
         (λ e. truth-as_false b k g a (at_end a there) ∙ e)
-        (λ e. or_true (negative b (replace_in g left)) (list_any b (at_each g left.succedent)) (any_contains b g left.succedent a there (not_false (b (replace_in_atom g a)) e)))
+        (λ e. or_right (negative b (replace_in g left)) (list_any b (at_each g left.succedent)) (any_contains b g left.succedent a there (not_false (b (replace_in_atom g a)) e)))
       where
         not_false : (t : Bool) → not t ≡ false → t ≡ true
         not_false true e = refl

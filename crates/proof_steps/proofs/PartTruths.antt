@@ -7,12 +7,12 @@ use Rattle.spl_terms.specs.declared.atom.Atom.{Atom}
 use Rattle.spl_terms.specs.declared.clause.Clause.{Clause}
 use Rattle.spl_terms.specs.Clauses.{atoms_of, replace_in_atom, replace_in}
 use Rattle.spl_truth.specs.Truth.{truth}
-use Rattle.spl_truth.proofs.Replacing.{at_each}
+use Rattle.spl_truth.specs.InstanceLaws.{at_each}
 use Rattle.clause_parts.specs.Parts.{marked, component, part_by, variable_lists, constraint_marks, antecedent_marks, succedent_marks}
 use Rattle.clause_parts.specs.Marking.{marked_variables}
-use Rattle.clause_parts.proofs.Marks.{length-atoms}
+use Rattle.clause_parts.specs.MarkLaws.{length-atoms}
 use Rattle.proof_steps.proofs.Resolution.{negative, or_four}
-use Rattle.clause_parts.proofs.Joint.{both, joint_left, joint_right, marked-append}
+use Rattle.clause_parts.specs.JointLaws.{both, joint_left, joint_right, marked-append}
 
 -- ---- the marked atoms, part by part
 

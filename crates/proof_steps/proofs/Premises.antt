@@ -14,7 +14,7 @@ use Rattle.clause_parts.specs.Sides.{split_parts, side_clauses}
 use Rattle.clause_parts.specs.SideLaws.{two_parts, split_parts-two}
 use Rattle.proof_steps.specs.Steps.{numbered, side_of}
 use Rattle.proof_steps.specs.Checked.{stated, assumption_clauses, premises}
-use Rattle.clause_parts.proofs.Joint.{or_true}
+use Rattle.std.proofs.lemmas.Bool.{or_right}
 
 -- ---- elements
 
@@ -40,7 +40,7 @@ pub in_first : (xs ys : List Assumption) (a : Assumption) → contains_assumptio
 in_first xs ys a e = united_contains a xs ys ∙ ap (λ b. b || contains_assumption ys a) e
 
 pub in_second : (xs ys : List Assumption) (a : Assumption) → contains_assumption ys a ≡ true → contains_assumption (united xs ys) a ≡ true
-in_second xs ys a e = united_contains a xs ys ∙ or_true (contains_assumption xs a) (contains_assumption ys a) e
+in_second xs ys a e = united_contains a xs ys ∙ or_right (contains_assumption xs a) (contains_assumption ys a) e
 
 -- ---- premises
 
@@ -58,7 +58,7 @@ module _ (lines : List Line) where
   premise_from (b ∷ deps) c there =
       elim (Contains-append_cases (assumption_clauses lines b) (premises lines deps) c there) [
         | inl h ↦ (b, ap (λ t. t || contains_assumption deps b) (same_self b), h)
-        | inr h ↦ (let r = premise_from deps c h in (r.0, or_true (is_same_assumption r.0 b) (contains_assumption deps r.0) r.1, r.2))
+        | inr h ↦ (let r = premise_from deps c h in (r.0, or_right (is_same_assumption r.0 b) (contains_assumption deps r.0) r.1, r.2))
       ]
 
   module _ (input : List Clause) where

@@ -2,10 +2,10 @@
 -- a split into the left part and the right part.
 use Rattle.std.proofs.Common.{◌≡◌, ◌⊎◌, ℕ, zero, suc, ◌+◌, Bool, true, false, not, ◌&&◌, ◌==◌, if◌then◌else◌, List, [], ◌∷◌, ◌++◌, length, map, take, drop, Option, Some, None, option_map, option_and_then, refl, sym, ap, ◌∙◌, arith, append-nil, slice_get}
 use Rattle.std.specs.List.{list_all}
+use Rattle.std.proofs.lemmas.Option.{none-some}
 use Rattle.std.proofs.lemmas.Bool.{ne_eqb, and_parts, false≢true}
 use Rattle.spl_terms.specs.declared.clause.Clause.{Clause}
 use Rattle.spl_terms.specs.Clauses.{in_order}
-use Rattle.spl_terms.specs.ListLaws.{none≢some}
 use Rattle.dep_sets.specs.declared.deps.Assumption.{Assumption}
 use Rattle.dep_sets.specs.Assumptions.{united, without_assumption}
 use Rattle.clause_parts.specs.Parts.{Parted, marked, part_by, left_marks, parted_by, parts_of, negated_atom}
@@ -132,6 +132,6 @@ both_by_cases split r e f parts h = by_marks (left_marks r.clause) h (are_closed
     by_marks : (o : Option (List Bool)) → option_map (parted_by r.clause) o ≡ Some parts → (t : Bool) →
         option_and_then (λ marks. when (ascend_within 0 (length marks) (1 ∷ 2 ∷ []) && t) (states (without_parts marks (1 ∷ 2 ∷ []) r.clause) deps)) (option_map (λ marks. marks ∷ map not marks ∷ []) o)
         ≡ when t (states (record { constraint = []; antecedent = []; succedent = [] }) deps)
-    by_marks None h t = absurd (none≢some h)
+    by_marks None h t = absurd (none-some _ h)
     by_marks (Some marks) h false = refl
     by_marks (Some marks) h true = ap (λ c. Some (states (in_order c) deps)) (nothing_left r.clause (map not (either marks (either (map not marks) []))) (each_marked marks))

@@ -4,7 +4,7 @@ use Rattle.std.specs.Prelude.{codes, ◌++◌}
 use Rattle.std.specs.Fmt.{decimal}
 use Rattle.spl_terms.specs.declared.term.Symbol.{Symbol}
 use Rattle.spl_terms.specs.declared.term.Term.{Term, Var, App}
-use Rattle.spl_terms.proofs.TermLemmas.{fold-Var, fold-App}
+use Rattle.spl_terms.specs.TermLaws.{fold-Var, fold-App}
 use Rattle.spl_symbols.specs.Symbols.{Declared}
 use Rattle.proof_text.specs.Texts.{term_text, text_step, applied_text, name_of}
 

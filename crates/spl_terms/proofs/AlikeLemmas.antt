@@ -1,8 +1,8 @@
 -- Two clauses side by side: what a test of their variables says of the lists of their variables.
 use Rattle.std.proofs.Common.{◌≡◌, ℕ, Bool, true, false, ◌&&◌, List, [], ◌∷◌, ◌++◌, map, refl, sym, ap, ◌∙◌}
 use Rattle.std.specs.List.{flat_map}
-use Rattle.std.proofs.Math.Bool.{true-and}
-use Rattle.std.proofs.lemmas.Bool.{false≢true}
+use Rattle.std.proofs.Math.Bool.{true-and, and-true, and_assoc}
+use Rattle.std.proofs.lemmas.Bool.{false≢true, and_parts}
 use Rattle.spl_terms.specs.declared.term.Symbol.{Symbol}
 use Rattle.spl_terms.specs.declared.term.Term.{Term, Var, App}
 use Rattle.spl_terms.specs.declared.term.Term.TheViews.{outs-Var, outs-App}
@@ -13,8 +13,7 @@ use Rattle.spl_terms.specs.Terms.{symbol_eq, all_pass, is_application, term_vari
 use Rattle.spl_terms.specs.Clauses.{atom_variables, clause_variables}
 use Rattle.spl_terms.specs.Alike.{passing_variable, alike_step, alike, alike_terms, alike_atoms, alike_lists, alike_clauses}
 pub use Rattle.spl_terms.specs.VariableLaws.{variables-parts}
-use Rattle.spl_terms.proofs.TermLemmas.{term_symbols-App, term_symbols-positive, Each, term_induction, fold-Var, fold-App, and-parts, term_eq-Var-Var, term_eq-Var-App, term_eq-App-Var, term_eq-App-App}
-use Rattle.spl_terms.proofs.NumberLemmas.{term_variables-Var, term_variables-App}
+use Rattle.spl_terms.specs.TermLaws.{term_symbols-App, term_symbols-positive, Each, term_induction, fold-Var, fold-App, term_eq-Var-Var, term_eq-Var-App, term_eq-App-Var, term_eq-App-App, term_variables-Var, term_variables-App}
 
 -- ---- the equations of the definition
 
@@ -56,22 +55,14 @@ pass p [] (y ∷ ys) = false
 pass p (x ∷ xs) [] = false
 pass p (x ∷ xs) (y ∷ ys) = p x y && pass p xs ys
 
-and-assoc : (a b c : Bool) → ((a && b) && c) ≡ (a && (b && c))
-and-assoc true b c = refl
-and-assoc false b c = refl
-
-and-true : (a : Bool) → (a && true) ≡ a
-and-true true = refl
-and-true false = refl
-
 -- where some test passes, so that the lists are as long as one another, a test of more is one of both
 pub pass-append : (p q : ℕ → ℕ → Bool) (xs ys vs ws : List ℕ) → pass p xs ys ≡ true → pass q (xs ++ vs) (ys ++ ws) ≡ (pass q xs ys && pass q vs ws)
 pass-append p q [] [] vs ws e = refl
 pass-append p q [] (y ∷ ys) vs ws e = absurd (cc)
 pass-append p q (x ∷ xs) [] vs ws e = absurd (cc)
 pass-append p q (x ∷ xs) (y ∷ ys) vs ws e =
-    let r : (p x y ≡ true) × (pass p xs ys ≡ true) = and-parts _ _ e in
-    ap (λ b. q x y && b) (pass-append p q xs ys vs ws r.1) ∙ sym (and-assoc (q x y) (pass q xs ys) (pass q vs ws))
+    let r : (p x y ≡ true) × (pass p xs ys ≡ true) = and_parts _ _ e in
+    ap (λ b. q x y && b) (pass-append p q xs ys vs ws r.1) ∙ sym (and_assoc (q x y) (pass q xs ys) (pass q vs ws))
 
 -- ---- where clauses are alike, another test of them is one of their variables
 
@@ -88,7 +79,7 @@ module _ (p : ℕ → ℕ → Bool) where
   zips_each [] each (t ∷ ts) e q = absurd (cc)
   zips_each (s ∷ ss) each [] e q = absurd (cc)
   zips_each (s ∷ ss) each (t ∷ ts) e q =
-      let r : (alike p s t ≡ true) × (alike_terms p ss ts ≡ true) = and-parts _ _ e in
+      let r : (alike p s t ≡ true) × (alike_terms p ss ts ≡ true) = and_parts _ _ e in
       joined q _ _ (term_variables s) (term_variables t) (flat_map term_variables ss) (flat_map term_variables ts) (sym (each.0 t r.0 p) ∙ r.0) (each.0 t r.0 q) (zips_each ss each.1 ts r.1 q)
 
   zips : (s : Term) → Zips s
@@ -100,7 +91,7 @@ module _ (p : ℕ → ℕ → Bool) where
       (λ f ss each. term_induction (λ t. alike p (App f ss) t ≡ true → (q : ℕ → ℕ → Bool) → alike q (App f ss) t ≡ pass q (term_variables (App f ss)) (term_variables t))
       (λ w e q. absurd (false≢true (sym (alike-App-Var p f ss w) ∙ e)))
       (λ g ts _ e q.
-      let r : (symbol_eq f g ≡ true) × (alike_terms p ss ts ≡ true) = and-parts _ _ (sym (alike-App-App p f ss g ts) ∙ e) in
+      let r : (symbol_eq f g ≡ true) × (alike_terms p ss ts ≡ true) = and_parts _ _ (sym (alike-App-App p f ss g ts) ∙ e) in
       alike-App-App q f ss g ts ∙ ap (λ b. b && alike_terms q ss ts) r.0 ∙ zips_each ss each ts r.1 q ∙ (λ i. pass q (sym (term_variables-App f ss) i) (sym (term_variables-App g ts) i))))
 
   zips_terms : (ss ts : List Term) → alike_terms p ss ts ≡ true → (q : ℕ → ℕ → Bool) → alike_terms q ss ts ≡ pass q (flat_map term_variables ss) (flat_map term_variables ts)
@@ -108,17 +99,17 @@ module _ (p : ℕ → ℕ → Bool) where
   zips_terms [] (t ∷ ts) e q = absurd (cc)
   zips_terms (s ∷ ss) [] e q = absurd (cc)
   zips_terms (s ∷ ss) (t ∷ ts) e q =
-      let r : (alike p s t ≡ true) × (alike_terms p ss ts ≡ true) = and-parts _ _ e in
+      let r : (alike p s t ≡ true) × (alike_terms p ss ts ≡ true) = and_parts _ _ e in
       joined q _ _ (term_variables s) (term_variables t) (flat_map term_variables ss) (flat_map term_variables ts) (sym (zips s t r.0 p) ∙ r.0) (zips s t r.0 q) (zips_terms ss ts r.1 q)
 
   zips_atom : (a b : Atom) → alike_atoms p a b ≡ true → (q : ℕ → ℕ → Bool) → alike_atoms q a b ≡ pass q (atom_variables a) (atom_variables b)
   zips_atom (Holds f ss) (Holds g ts) e q =
-      let r : (symbol_eq f g ≡ true) × (alike_terms p ss ts ≡ true) = and-parts _ _ e in
+      let r : (symbol_eq f g ≡ true) × (alike_terms p ss ts ≡ true) = and_parts _ _ e in
       ap (λ b. b && alike_terms q ss ts) r.0 ∙ zips_terms ss ts r.1 q
   zips_atom (Holds f ss) (Equal u v) e q = absurd (cc)
   zips_atom (Equal s t) (Holds g ts) e q = absurd (cc)
   zips_atom (Equal s t) (Equal u v) e q =
-      let r : (alike p s u ≡ true) × (alike p t v ≡ true) = and-parts _ _ e in
+      let r : (alike p s u ≡ true) × (alike p t v ≡ true) = and_parts _ _ e in
       ap (λ b. alike q s u && b) (sym (and-true (alike q t v))) ∙ zips_terms (s ∷ t ∷ []) (u ∷ v ∷ []) ((λ i. r.0 i && (r.1 i && true))) q
 
   zips_list : (as' bs : List Atom) → alike_lists p as' bs ≡ true → (q : ℕ → ℕ → Bool) → alike_lists q as' bs ≡ pass q (flat_map atom_variables as') (flat_map atom_variables bs)
@@ -126,14 +117,14 @@ module _ (p : ℕ → ℕ → Bool) where
   zips_list [] (b ∷ bs) e q = absurd (cc)
   zips_list (a ∷ as') [] e q = absurd (cc)
   zips_list (a ∷ as') (b ∷ bs) e q =
-      let r : (alike_atoms p a b ≡ true) × (alike_lists p as' bs ≡ true) = and-parts _ _ e in
+      let r : (alike_atoms p a b ≡ true) × (alike_lists p as' bs ≡ true) = and_parts _ _ e in
       joined q _ _ (atom_variables a) (atom_variables b) (flat_map atom_variables as') (flat_map atom_variables bs) (sym (zips_atom a b r.0 p) ∙ r.0) (zips_atom a b r.0 q) (zips_list as' bs r.1 q)
 
   pub zips_clause : (c d : Clause) → alike_clauses p c d ≡ true → (q : ℕ → ℕ → Bool) → alike_clauses q c d ≡ pass q (clause_variables c) (clause_variables d)
   zips_clause c d e q =
       let v = flat_map atom_variables in
-      let r = and-parts _ _ e in
-      let l = and-parts _ _ r.0 in
+      let r = and_parts _ _ e in
+      let l = and_parts _ _ r.0 in
       let x : (o : ℕ → ℕ → Bool) → alike_lists o c.constraint d.constraint ≡ pass o (v c.constraint) (v d.constraint) = zips_list c.constraint d.constraint l.0 in
       let y : (o : ℕ → ℕ → Bool) → alike_lists o c.antecedent d.antecedent ≡ pass o (v c.antecedent) (v d.antecedent) = zips_list c.antecedent d.antecedent l.1 in
       let z : (o : ℕ → ℕ → Bool) → alike_lists o c.succedent d.succedent ≡ pass o (v c.succedent) (v d.succedent) = zips_list c.succedent d.succedent r.1 in

@@ -1,10 +1,9 @@
 -- Hashes of atoms, and atoms that are filed under them.
-use Rattle.std.proofs.Common.{◌≡◌, ◌⊎◌, inl, inr, ℕ, zero, suc, ◌+◌, ◌-◌, ◌%◌, ◌^◌, ◌<◌, ◌≤◌, Bool, true, false, ◌||◌, cond, nat_eq, nat_lt, List, [], ◌∷◌, ◌++◌, length, map, fold, take, Some, None, refl, sym, ap, subst, ◌∙◌, arith, slice_get, length-append}
+use Rattle.std.proofs.Common.{◌≡◌, inl, inr, ℕ, zero, suc, ◌+◌, ◌-◌, ◌%◌, ◌^◌, ◌<◌, ◌≤◌, Bool, true, false, ◌||◌, cond, nat_eq, nat_lt, List, [], ◌∷◌, ◌++◌, length, map, fold, take, Some, None, refl, sym, ap, subst, ◌∙◌, arith, slice_get, length-append}
 use Rattle.std.specs.Prelude.{is_some}
-use Rattle.std.specs.Option.{option_copied}
 use Rattle.std.specs.List.{list_any}
 use Rattle.std.specs.HashMap.{get, Updates}
-use Rattle.std.proofs.lemmas.Bool.{false≢true, ltb-true, ltb-false}
+use Rattle.std.proofs.lemmas.Bool.{false≢true, ltb-true, ltb-false, or_cases, or_left, or_right, or_parts}
 use Rattle.spl_terms.specs.declared.term.Symbol.{Symbol}
 use Rattle.spl_terms.specs.declared.term.Term.{Term, Var, App}
 use Rattle.spl_terms.specs.declared.atom.Atom.{Atom}
@@ -12,8 +11,9 @@ use Rattle.spl_terms.specs.declared.atom.Atom.TheVariants.{Holds, Equal}
 use Rattle.spl_terms.specs.Clauses.{is_same}
 use Rattle.spl_terms.specs.Hashes.{mixed, hash_step, term_hash, atom_hash, Places, AreFiled}
 use Rattle.spl_terms.specs.TermLaws.{fold-Var, fold-App}
-use Rattle.spl_terms.specs.SameLaws.{flipped, same_cases, or-cases, or-left, or-right}
-use Rattle.spl_terms.specs.ListLaws.{none≢some, same_item, get-left, get-right, get-within}
+use Rattle.spl_terms.specs.SameLaws.{flipped, same_cases}
+use Rattle.std.proofs.lemmas.Option.{none-some, same_Some, slice_get_within}
+use Rattle.spl_terms.specs.ListLaws.{get-left, get-right}
 
 pub term_hash-Var : (v : ℕ) → term_hash (Var v) ≡ mixed 2 v
 term_hash-Var v = fold-Var hash_step v
@@ -50,8 +50,8 @@ filed-there old new hash place u = ap is_some u.1
 
 module _ (x a : Atom) where
   only_one : (j : ℕ) → slice_get (x ∷ []) j ≡ Some a → x ≡ a
-  only_one zero e = same_item x a e
-  only_one (suc j) e = absurd (none≢some a e)
+  only_one zero e = same_Some x a e
+  only_one (suc j) e = absurd (none-some a e)
 
   past : (atoms : List Atom) (k : ℕ) → length atoms ≤ k → slice_get (atoms ++ x ∷ []) k ≡ Some a → x ≡ a
   past atoms k h there =
@@ -66,32 +66,28 @@ filed-end atoms places x filed last k a low there = by_test (nat_lt k (length at
     by_test true e = filed k a low (sym (get-left atoms (x ∷ []) k (ltb-true k (length atoms) e)) ∙ there)
     by_test false e =
         let h = ltb-false k (length atoms) e in
-        let within = get-within (atoms ++ x ∷ []) k a there in
+        let within = slice_get_within (atoms ++ x ∷ []) k a there in
         subst (λ y. is_some (get nat_eq places (atom_hash y)) ≡ true) (past x a atoms k h there) (last (omega (arith, h, low, within, length-append atoms (x ∷ []))))
 
 -- ---- what is found, and what isn't
 
 pub any_at : (p : Atom → Bool) (xs : List Atom) (k : ℕ) (x : Atom) → Some x ≡ slice_get xs k → p x ≡ true → list_any p xs ≡ true
-any_at p [] k x e h = absurd (none≢some x (sym e))
-any_at p (y ∷ xs) zero x e h = or-left (p y) (list_any p xs) (ap p (same_item y x (sym e)) ∙ h)
-any_at p (y ∷ xs) (suc k) x e h = or-right (p y) (list_any p xs) (any_at p xs k x e h)
+any_at p [] k x e h = absurd (none-some x (sym e))
+any_at p (y ∷ xs) zero x e h = or_left (p y) (list_any p xs) (ap p (same_Some y x (sym e)) ∙ h)
+any_at p (y ∷ xs) (suc k) x e h = or_right (p y) (list_any p xs) (any_at p xs k x e h)
 
 pub any_first : (p : Atom → Bool) (n : ℕ) (xs : List Atom) → list_any p (take n xs) ≡ true → list_any p xs ≡ true
 any_first p zero xs e = absurd (false≢true e)
 any_first p (suc n) [] e = e
-any_first p (suc n) (x ∷ xs) e = elim (or-cases (p x) (list_any p (take n xs)) e) [
-  | inl here ↦ or-left (p x) (list_any p xs) here
-  | inr later ↦ or-right (p x) (list_any p xs) (any_first p n xs later)
+any_first p (suc n) (x ∷ xs) e = elim (or_cases (p x) (list_any p (take n xs)) e) [
+  | inl here ↦ or_left (p x) (list_any p xs) here
+  | inr later ↦ or_right (p x) (list_any p xs) (any_first p n xs later)
 ]
-
-or_parts : (a b : Bool) → (a || b) ≡ false → (a ≡ false) × (b ≡ false)
-or_parts true b e = absurd (false≢true (sym e))
-or_parts false b e = (refl, e)
 
 none_at : (p : Atom → Bool) (n : ℕ) (xs : List Atom) → list_any p (take n xs) ≡ false → (k : ℕ) (x : Atom) → k < n → slice_get xs k ≡ Some x → p x ≡ false
 none_at p zero xs h k x low e = absurd (omega (arith, low))
-none_at p (suc n) [] h k x low e = absurd (none≢some x e)
-none_at p (suc n) (y ∷ xs) h zero x low e = ap p (sym (same_item y x e)) ∙ (or_parts (p y) (list_any p (take n xs)) h).0
+none_at p (suc n) [] h k x low e = absurd (none-some x e)
+none_at p (suc n) (y ∷ xs) h zero x low e = ap p (sym (same_Some y x e)) ∙ (or_parts (p y) (list_any p (take n xs)) h).0
 none_at p (suc n) (y ∷ xs) h (suc k) x low e = none_at p n xs (or_parts (p y) (list_any p (take n xs)) h).1 k x (omega (arith, low)) e
 
 none_of : (p : Atom → Bool) (xs : List Atom) → ((k : ℕ) (x : Atom) → slice_get xs k ≡ Some x → p x ≡ false) → list_any p xs ≡ false

@@ -4,6 +4,7 @@ use Rattle.std.specs.List.{swap, slice_get, list_any}
 use Rattle.std.proofs.lemmas.List.{take-set-le, take_more_set, drop-set-lt, length-set}
 use Rattle.std.proofs.lemmas.List.Edits.{swap_is}
 use Rattle.spl_terms.specs.declared.atom.Atom.{Atom}
+use Rattle.spl_terms.specs.ListLaws.{get-there}
 use Rattle.spl_terms.specs.Clauses.{is_same, added}
 
 changed_one_more : {A : Type 0} (f : A → A) (old : List A) (i : ℕ) (d : A) → i < length old → set (map f (take i old) ++ drop i old) i (f (get_or (map f (take i old) ++ drop i old) i d)) ≡ map f (take (suc i) old) ++ drop (suc i) old
@@ -18,11 +19,6 @@ changed_in_place {A = A} f old now i d y h e p =
     ∙ ap (λ (l : List A). set l i (f (get_or l i d))) e
     ∙ changed_one_more f old i d h
     ∙ ap (λ (j : ℕ). map f (take j old) ++ drop j old) (sym (add-one i))
-
-there : {A : Type 0} (xs : List A) (i : ℕ) → i < length xs → (x : A) × (slice_get xs i ≡ Some x)
-there [] i h = absurd (omega arith)
-there (x ∷ xs) zero h = (x, refl)
-there (x ∷ xs) (suc i) h = there xs i (omega arith)
 
 drop-there : {A : Type 0} (xs : List A) (i : ℕ) (x : A) → slice_get xs i ≡ Some x → drop i xs ≡ x ∷ drop (suc i) xs
 drop-there [] i x e = absurd (cc)
@@ -65,13 +61,13 @@ module _ (xs made : List Atom) (k i : ℕ) (test : Bool) where
 
   pub repeated_stays : i < length xs → Tests → test ≡ true → fold added (take k xs) (drop i xs) ≡ made → fold added (take k xs) (drop (i + 1) xs) ≡ made
   repeated_stays l t e h =
-      let x = there xs i l in
+      let x = get-there xs i l in
       let is : test ≡ list_any (λ b. is_same x.0 b) (take k xs) = rw x.1 at t in
       ap (λ b. fold added (if b then take k xs else take k xs ++ x.0 ∷ []) (drop (i + 1) xs)) (sym e ∙ is) ∙ step x.0 x.1 h
 
   pub other_kept : k ≤ i → i < length xs → Tests → test ≡ false → fold added (take k xs) (drop i xs) ≡ made → fold added (take (k + 1) (swap xs k i)) (drop (i + 1) (swap xs k i)) ≡ made
   other_kept m l t e h =
-      let x = there xs i l in
+      let x = get-there xs i l in
       let is : test ≡ list_any (λ b. is_same x.0 b) (take k xs) = rw x.1 at t in
       let p = take-swap xs k i x.0 m l x.1 in
       let q = drop-swap xs k i x.0 m l in

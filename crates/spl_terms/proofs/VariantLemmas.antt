@@ -1,22 +1,16 @@
 -- Clauses that are equal once their variables are renumbered.
-use Rattle.std.proofs.Common.{◌≡◌, ◌⊎◌, inl, inr, ℕ, ◌+◌, Bool, true, false, not, ◌&&◌, ◌||◌, ◌==◌, if◌then◌else◌, cond, List, [], ◌∷◌, ◌++◌, fold, map, refl, sym, ap, subst, eq-eqb, arith, ◌∙◌}
-use Rattle.std.specs.List.{list_any}
-use Rattle.std.proofs.Math.Bool.{or-true}
-use Rattle.std.proofs.lemmas.List.Folds.{list_any-append}
-use Rattle.std.proofs.lemmas.Bool.{eqb-true, false≢true}
+use Rattle.std.proofs.Common.{◌≡◌, ℕ, ◌+◌, Bool, true, false, not, ◌&&◌, ◌||◌, ◌==◌, if◌then◌else◌, cond, List, [], ◌∷◌, ◌++◌, fold, map, refl, sym, ap, eq-eqb, ◌∙◌}
+use Rattle.std.proofs.lemmas.Bool.{eqb-true, false≢true, or_left, or_right, and_from, and_parts}
 use Rattle.spl_terms.specs.declared.term.Term.{Term, Var, App}
 use Rattle.spl_terms.specs.declared.atom.Atom.{Atom}
 use Rattle.spl_terms.specs.declared.atom.Atom.TheVariants.{Holds, Equal}
 use Rattle.spl_terms.specs.declared.clause.Clause.{Clause}
 use Rattle.spl_terms.specs.Terms.{symbol_eq, term_eq, terms_eq, replace}
-use Rattle.spl_terms.specs.Clauses.{clause_variables, atom_eq, atoms_eq, clause_eq, replace_in_atom, replace_in, noted, firsts, place_in, number_in, at_lists, distinct, renumbered, in_order}
+use Rattle.spl_terms.specs.Clauses.{clause_variables, atom_eq, atoms_eq, clause_eq, replace_in_atom, replace_in, noted, firsts, place_in, number_in, renumbered}
 use Rattle.spl_terms.specs.Alike.{alike, alike_terms, alike_atoms, alike_lists, alike_clauses, agree, correspond}
-use Rattle.spl_terms.specs.SameLaws.{or-left, or-right}
 use Rattle.spl_terms.specs.VariableLaws.{itself, eqb-sym, has, has-firsts, place-apart}
 pub use Rattle.spl_terms.specs.InOrderLaws.{renumbered-renumbered, renumbered-in_order}
-use Rattle.spl_terms.specs.TermLaws.{and-both}
-use Rattle.spl_terms.proofs.TermLemmas.{Each, term_induction, and-parts, term_eq-Var-Var, term_eq-Var-App, term_eq-App-Var, term_eq-App-App}
-use Rattle.spl_terms.proofs.NumberLemmas.{replace-Var, replace-App}
+use Rattle.spl_terms.specs.TermLaws.{Each, term_induction, term_eq-Var-Var, term_eq-Var-App, term_eq-App-Var, term_eq-App-App, replace-Var, replace-App}
 use Rattle.spl_terms.proofs.ClauseLemmas.{clause_eq-true, clause_eq-same}
 use Rattle.spl_terms.proofs.AlikeLemmas.{alike-Var-Var, alike-Var-App, alike-App-Var, alike-App-App, pass, pass-append, zips_clause}
 
@@ -84,9 +78,9 @@ pass-more p q [] [] e h = refl
 pass-more p q [] (y ∷ ys) e h = absurd (cc)
 pass-more p q (x ∷ xs) [] e h = absurd (cc)
 pass-more p q (x ∷ xs) (y ∷ ys) e h =
-    let r : (p x y ≡ true) × (pass p xs ys ≡ true) = and-parts _ _ e in
-    and-both (q x y) (pass q xs ys) (h x y (or-left (x == x) (has x xs) (itself x)) (or-left (y == y) (has y ys) (itself y)) r.0)
-    (pass-more p q xs ys r.1 (λ v w i j. h v w (or-right (v == x) (has v xs) i) (or-right (w == y) (has w ys) j)))
+    let r : (p x y ≡ true) × (pass p xs ys ≡ true) = and_parts _ _ e in
+    and_from (q x y) (pass q xs ys) (h x y (or_left (x == x) (has x xs) (itself x)) (or_left (y == y) (has y ys) (itself y)) r.0)
+    (pass-more p q xs ys r.1 (λ v w i j. h v w (or_right (v == x) (has v xs) i) (or_right (w == y) (has w ys) j)))
 
 -- ---- the same names come from variables that correspond
 
@@ -131,7 +125,7 @@ agree-has v w [] [] e = refl
 agree-has v w [] (y ∷ ys) e = absurd (cc)
 agree-has v w (x ∷ xs) [] e = absurd (cc)
 agree-has v w (x ∷ xs) (y ∷ ys) e =
-    let r : (agree v w x y ≡ true) × (pass (agree v w) xs ys ≡ true) = and-parts _ _ e in
+    let r : (agree v w x y ≡ true) × (pass (agree v w) xs ys ≡ true) = and_parts _ _ e in
     let t : (v == x) ≡ (w == y) = eqb-sym v x ∙ agree-tests v w x y r.0 ∙ eqb-sym y w in
     λ i. t i || agree-has v w xs ys r.1 i
 
@@ -140,7 +134,7 @@ agree-place v w [] [] e = refl
 agree-place v w [] (y ∷ ys) e = absurd (cc)
 agree-place v w (x ∷ xs) [] e = absurd (cc)
 agree-place v w (x ∷ xs) (y ∷ ys) e =
-    let r : (agree v w x y ≡ true) × (pass (agree v w) xs ys ≡ true) = and-parts _ _ e in
+    let r : (agree v w x y ≡ true) × (pass (agree v w) xs ys ≡ true) = and_parts _ _ e in
     let t = agree-tests v w x y r.0 in
     let k = agree-place v w xs ys r.1 in
     λ i. cond (not (t i)) (1 + k i) 0
@@ -155,7 +149,7 @@ module _ (q : ℕ → ℕ → Bool) where
     where
       by_test : (a b : Bool) → a ≡ b → pass (agree v w) (if a then os else os ++ x ∷ []) (if b then ps else ps ++ y ∷ []) ≡ true
       by_test true true _ = before v w e
-      by_test false false _ = pass-append (agree v w) (agree v w) os ps (x ∷ []) (y ∷ []) (before v w e) ∙ and-both _ _ (before v w e) (and-both _ true (at_these v w e) refl)
+      by_test false false _ = pass-append (agree v w) (agree v w) os ps (x ∷ []) (y ∷ []) (before v w e) ∙ and_from _ _ (before v w e) (and_from _ true (at_these v w e) refl)
       by_test true false d = absurd (cc)
       by_test false true d = absurd (cc)
 
@@ -164,9 +158,9 @@ module _ (q : ℕ → ℕ → Bool) where
   agree-firsts [] (y ∷ ys) os ps e rest before = absurd (cc)
   agree-firsts (x ∷ xs) [] os ps e rest before = absurd (cc)
   agree-firsts (x ∷ xs) (y ∷ ys) os ps e rest before =
-      let r : (q x y ≡ true) × (pass q xs ys ≡ true) = and-parts _ _ e in
-      agree-firsts xs ys (noted os x) (noted ps y) r.1 (λ v w h. (and-parts _ _ (rest v w h)).1)
-      (agree-noted x y os ps r.0 (λ v w h. (and-parts _ _ (rest v w h)).0) before)
+      let r : (q x y ≡ true) × (pass q xs ys ≡ true) = and_parts _ _ e in
+      agree-firsts xs ys (noted os x) (noted ps y) r.1 (λ v w h. (and_parts _ _ (rest v w h)).1)
+      (agree-noted x y os ps r.0 (λ v w h. (and_parts _ _ (rest v w h)).0) before)
 
 -- ---- different variables have different places
 

@@ -1,10 +1,10 @@
 -- Laws with their proofs, not definitions that a reader must believe: what `in_order` makes is in order, what is in order stays so,
 -- and the variables of a clause in order are below their number.
-use Rattle.std.proofs.Common.{◌≡◌, inl, inr, ℕ, ◌+◌, ◌<◌, Bool, true, false, not, ◌&&◌, ◌||◌, ◌==◌, if◌then◌else◌, List, [], ◌∷◌, ◌++◌, map, fold, refl, sym, ap, ◌∙◌, subst, append_assoc, append-nil}
+use Rattle.std.proofs.Common.{◌≡◌, inl, inr, ℕ, ◌<◌, Bool, true, false, not, ◌&&◌, ◌||◌, ◌==◌, if◌then◌else◌, List, [], ◌∷◌, ◌++◌, map, fold, refl, sym, ap, ◌∙◌, subst, append_assoc, append-nil}
 use Rattle.std.specs.Prelude.{slice_index}
 use Rattle.std.specs.List.{list_any, flat_map}
 use Rattle.std.proofs.lemmas.List.Folds.{list_any-append}
-use Rattle.std.proofs.lemmas.Bool.{eqb-true, false≢true}
+use Rattle.std.proofs.lemmas.Bool.{eqb-true, false≢true, and_parts, and_from, or_cases, or_left, not-true, or_parts, or_from}
 use Rattle.spl_terms.specs.declared.term.Term.{Term, Var, App}
 use Rattle.spl_terms.specs.declared.atom.Atom.{Atom}
 use Rattle.spl_terms.specs.declared.atom.Atom.TheVariants.{Holds, Equal}
@@ -12,33 +12,21 @@ use Rattle.spl_terms.specs.declared.clause.Part.{Part}
 use Rattle.spl_terms.specs.declared.clause.Part.TheVariants.{Constraint, Antecedent, Succedent}
 use Rattle.spl_terms.specs.declared.clause.Clause.{Clause}
 use Rattle.spl_terms.specs.Terms.{replace, term_variables}
-use Rattle.spl_terms.specs.Clauses.{is_same, added, distinct, at_lists, atom_variables, clause_variables, noted, firsts, place_in, number_in, replace_in_atom, replace_in, renumbered, in_order, part_of}
+use Rattle.spl_terms.specs.Clauses.{is_same, added, distinct, at_lists, atom_variables, clause_variables, firsts, place_in, number_in, replace_in_atom, replace_in, renumbered, in_order, part_of}
 use Rattle.spl_terms.specs.InOrder.{are_different, IsInOrder, variables}
-use Rattle.spl_terms.specs.TermLaws.{Each, term_induction, term_variables-Var, term_variables-App, replace-Var, replace-App, and-parts, and-both, replace-itself, replace_all-itself}
-use Rattle.spl_terms.specs.SameLaws.{or-cases, or-left, same-replace}
-use Rattle.spl_terms.specs.VariableLaws.{equally, itself, has, has-append-left, has-append-right, has-firsts, place-below, place-stands, place-apart, fold-map, place-map, variables-parts, renamed_variables_clause}
-
--- ---- tests
-
-not_false : (b : Bool) → not b ≡ true → b ≡ false
-not_false true e = absurd (false≢true e)
-not_false false e = refl
-
-or_parts : (a b : Bool) → (a || b) ≡ false → (a ≡ false) × (b ≡ false)
-or_parts true b e = absurd (false≢true (sym e))
-or_parts false b e = (refl, e)
-
-or_both : (a b : Bool) → a ≡ false → b ≡ false → (a || b) ≡ false
-or_both a b e f = ap (λ c. c || b) e ∙ f
+use Rattle.spl_terms.specs.TermLaws.{Each, term_induction, term_variables-Var, term_variables-App, replace-Var, replace-App, replace-itself, replace_all-itself}
+use Rattle.spl_terms.specs.SameLaws.{same-replace}
+use Rattle.spl_terms.specs.BoolLaws.{equally}
+use Rattle.spl_terms.specs.VariableLaws.{itself, has, has-append-left, has-append-right, has-firsts, place-below, place-stands, place-apart, fold-map, place-map, variables-parts, renamed_variables_clause}
 
 -- ---- dropping repeats
 
 different-end : (os : List Atom) (x : Atom) → are_different os ≡ true → list_any (λ b. is_same x b) os ≡ false → are_different (os ++ x ∷ []) ≡ true
 different-end [] x d n = refl
 different-end (o ∷ os) x d n =
-    let r : (not (list_any (λ b. is_same b o) os) ≡ true) × (are_different os ≡ true) = and-parts _ _ d in
+    let r : (not (list_any (λ b. is_same b o) os) ≡ true) × (are_different os ≡ true) = and_parts _ _ d in
     let m : (is_same x o ≡ false) × (list_any (λ b. is_same x b) os ≡ false) = or_parts _ _ n in
-    and-both _ _ (ap not (list_any-append (λ b. is_same b o) os (x ∷ []) ∙ or_both _ _ (not_false _ r.0) (or_both _ false m.0 refl))) (different-end os x r.1 m.1)
+    and_from _ _ (ap not (list_any-append (λ b. is_same b o) os (x ∷ []) ∙ or_from _ _ (not-true _ r.0) (or_from _ false m.0 refl))) (different-end os x r.1 m.1)
 
 pub added-different : (os : List Atom) (x : Atom) → are_different os ≡ true → are_different (added os x) ≡ true
 added-different os x d = by_test (list_any (λ b. is_same x b) os) refl
@@ -58,9 +46,9 @@ distinct-different xs = fold-different xs [] refl
 earlier-other : (os xs : List Atom) (x : Atom) → are_different (os ++ x ∷ xs) ≡ true → list_any (λ b. is_same x b) os ≡ false
 earlier-other [] xs x d = refl
 earlier-other (o ∷ os) xs x d =
-    let r : (not (list_any (λ b. is_same b o) (os ++ x ∷ xs)) ≡ true) × (are_different (os ++ x ∷ xs) ≡ true) = and-parts _ _ d in
-    let n = or_parts _ _ (sym (list_any-append (λ b. is_same b o) os (x ∷ xs)) ∙ not_false _ r.0) in
-    or_both _ _ (or_parts _ _ n.1).0 (earlier-other os xs x r.1)
+    let r : (not (list_any (λ b. is_same b o) (os ++ x ∷ xs)) ≡ true) × (are_different (os ++ x ∷ xs) ≡ true) = and_parts _ _ d in
+    let n = or_parts _ _ (sym (list_any-append (λ b. is_same b o) os (x ∷ xs)) ∙ not-true _ r.0) in
+    or_from _ _ (or_parts _ _ n.1).0 (earlier-other os xs x r.1)
 
 fold-kept : (xs os : List Atom) → are_different (os ++ xs) ≡ true → fold added os xs ≡ os ++ xs
 fold-kept [] os d = sym (append-nil os)
@@ -108,7 +96,7 @@ module _ (h k m : ℕ → ℕ) where
       (λ v u.
       ap (replace (λ v. Var (k v))) (replace-Var (λ v. Var (h v)) v)
       ∙ replace-Var (λ v. Var (k v)) (h v)
-      ∙ ap Var (u v (ap (has v) (term_variables-Var v) ∙ or-left (v == v) false (itself v)))
+      ∙ ap Var (u v (ap (has v) (term_variables-Var v) ∙ or_left (v == v) false (itself v)))
       ∙ sym (replace-Var (λ v. Var (m v)) v))
       (λ f ts each u.
       ap (replace (λ v. Var (k v))) (replace-App (λ v. Var (h v)) f ts)
@@ -249,7 +237,7 @@ in_order-in_order c = IsInOrder-in_order (in_order c) (in_order-IsInOrder c)
 
 fixed : (n : ℕ → ℕ) (vs : List ℕ) → map n vs ≡ vs → (v : ℕ) → has v vs ≡ true → n v ≡ v
 fixed n [] e v h = absurd (false≢true h)
-fixed n (x ∷ vs) e v h = elim (or-cases (v == x) (has v vs) h) [
+fixed n (x ∷ vs) e v h = elim (or_cases (v == x) (has v vs) h) [
   | inl here ↦ let k : v ≡ x = eqb-true v x here in let f : n x ≡ x = ap (λ (l : List ℕ). slice_index l 0) e in ap n k ∙ f ∙ sym k
   | inr there ↦ fixed n vs (ap rest e) v there
 ]

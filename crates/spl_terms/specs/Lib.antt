@@ -2,10 +2,12 @@ pub mod formers
 pub mod Lists
 pub mod ListLaws
 pub mod Terms
+pub mod BoolLaws
 pub mod TermLaws
 pub mod Clauses
 pub mod Hashes
 pub mod SameLaws
+pub mod SizeLaws
 pub mod VariableLaws
 pub mod InOrder
 pub mod InOrderLaws

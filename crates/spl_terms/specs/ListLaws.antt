@@ -1,15 +1,23 @@
 -- Laws with their proofs, not definitions that a reader must believe: elements by their numbers, in lists that grow.
-use Rattle.std.proofs.Common.{◌≡◌, ℕ, zero, suc, ◌+◌, ◌-◌, ◌<◌, ◌≤◌, Bool, true, false, List, [], ◌∷◌, ◌++◌, length, map, take, Option, Some, None, option_map, refl, sym, ap, ◌∙◌, arith, slice_get}
-use Rattle.std.specs.Option.{is_some, unwrap_or}
-use Rattle.std.proofs.lemmas.Bool.{false≢true}
-use Rattle.std.proofs.lemmas.Option.{slice_get-map}
+use Rattle.std.proofs.Common.{◌≡◌, ℕ, zero, suc, ◌+◌, ◌-◌, ◌<◌, ◌≤◌, List, [], ◌∷◌, ◌++◌, length, map, take, Some, option_map, refl, sym, ap, ◌∙◌, arith, slice_get}
+use Rattle.std.proofs.lemmas.Option.{none-some, slice_get-map, slice_get_within}
 use Rattle.spl_terms.specs.Lists.{numbered}
 
-pub none≢some : {A : Type 0} (x : A) → None ≡ Some x → ⊥
-none≢some x e = false≢true (ap is_some e)
+-- ---- the first element, and those behind it
 
-pub same_item : {A : Type 0} (x y : A) → Some x ≡ Some y → x ≡ y
-same_item x y e = ap (λ o. unwrap_or o x) e
+abbrev first_or : {A : Type 0} → A → List A → A
+first_or d [] = d
+first_or d (x ∷ xs) = x
+
+abbrev behind_first : {A : Type 0} → List A → List A
+behind_first [] = []
+behind_first (x ∷ xs) = xs
+
+pub same_first : {A : Type 0} (x y : A) (xs ys : List A) → x ∷ xs ≡ y ∷ ys → x ≡ y
+same_first x y xs ys e = ap (first_or x) e
+
+pub same_rest : {A : Type 0} (x y : A) (xs ys : List A) → x ∷ xs ≡ y ∷ ys → xs ≡ ys
+same_rest x y xs ys e = ap behind_first e
 
 -- ---- elements by their places, from 0
 
@@ -22,10 +30,10 @@ pub get-right : {A : Type 0} (xs ys : List A) (k : ℕ) → slice_get (xs ++ ys)
 get-right [] ys k = ap (slice_get ys) (let e : 0 + k ≡ k = omega arith in e)
 get-right (x ∷ xs) ys k = ap (slice_get (x ∷ (xs ++ ys))) (let e : suc (length xs) + k ≡ suc (length xs + k) = omega arith in e) ∙ get-right xs ys k
 
-pub get-within : {A : Type 0} (xs : List A) (k : ℕ) (x : A) → slice_get xs k ≡ Some x → k < length xs
-get-within [] k x e = absurd (none≢some x e)
-get-within (y ∷ xs) zero x e = omega arith
-get-within (y ∷ xs) (suc k) x e = omega (arith, get-within xs k x e)
+pub get-behind : {A : Type 0} (xs ys : List A) (k : ℕ) → length xs ≤ k → slice_get (xs ++ ys) k ≡ slice_get ys (k - length xs)
+get-behind xs ys k h =
+    let place : length xs + (k - length xs) ≡ k = omega (arith, h) in
+    ap (slice_get (xs ++ ys)) (sym place) ∙ get-right xs ys (k - length xs)
 
 pub get-there : {A : Type 0} (xs : List A) (k : ℕ) → k < length xs → (x : A) × (slice_get xs k ≡ Some x)
 get-there [] k h = absurd (omega (arith, h))
@@ -39,8 +47,8 @@ numbered-get xs zero h = absurd (omega (arith, h))
 numbered-get xs (suc k) h = ap (slice_get xs) (let e : k ≡ suc k - 1 = omega arith in e)
 
 pub numbered-within : {A : Type 0} (xs : List A) (n : ℕ) (x : A) → numbered xs n ≡ Some x → (1 ≤ n) × (n ≤ length xs)
-numbered-within xs zero x e = absurd (none≢some x e)
-numbered-within xs (suc k) x e = (omega arith, omega (arith, get-within xs k x e))
+numbered-within xs zero x e = absurd (none-some x e)
+numbered-within xs (suc k) x e = (omega arith, omega (arith, slice_get_within xs k x e))
 
 pub numbered-there : {A : Type 0} (xs : List A) (n : ℕ) → 1 ≤ n → n ≤ length xs → (x : A) × (numbered xs n ≡ Some x)
 numbered-there xs zero h k = absurd (omega (arith, h))

@@ -1,50 +1,39 @@
 -- Laws with their proofs, not definitions that a reader must believe: atoms that are the same up to exchanged sides.
-use Rattle.std.proofs.Common.{◌≡◌, ◌⊎◌, inl, inr, ℕ, Bool, true, false, ◌&&◌, ◌||◌, refl, sym, ap, ◌∙◌, subst}
-use Rattle.std.proofs.lemmas.Bool.{false≢true}
+use Rattle.std.proofs.Common.{◌≡◌, ◌⊎◌, inl, inr, ℕ, true, ◌&&◌, refl, sym, ap, ◌∙◌, subst}
+use Rattle.std.proofs.lemmas.Bool.{false≢true, and_parts, and_from, or_cases, or_left, or_right}
 use Rattle.spl_terms.specs.declared.term.Term.{Term}
 use Rattle.spl_terms.specs.declared.atom.Atom.{Atom}
 use Rattle.spl_terms.specs.declared.atom.Atom.TheVariants.{Holds, Equal}
-use Rattle.spl_terms.specs.Terms.{term_eq, terms_eq}
+use Rattle.spl_terms.specs.Terms.{term_eq}
 use Rattle.spl_terms.specs.Clauses.{is_same, replace_in_atom}
-use Rattle.spl_terms.specs.TermLaws.{and-parts, and-both, symbol_eq-refl, symbol_eq-true, term_eq-refl, term_eq-true, terms_eq-refl, terms_eq-same}
+use Rattle.spl_terms.specs.TermLaws.{symbol_eq-refl, symbol_eq-true, term_eq-refl, term_eq-true, terms_eq-refl, terms_eq-same}
 
 -- an equation with its sides exchanged
 abbrev pub flipped : Atom → Atom
 flipped (Holds p ts) = Holds p ts
 flipped (Equal s t) = Equal t s
 
-pub or-cases : (a b : Bool) → (a || b) ≡ true → (a ≡ true) ⊎ (b ≡ true)
-or-cases true b e = inl refl
-or-cases false b e = inr e
-
-pub or-left : (a b : Bool) → a ≡ true → (a || b) ≡ true
-or-left a b e = ap (λ c. c || b) e
-
-pub or-right : (a b : Bool) → b ≡ true → (a || b) ≡ true
-or-right true b e = refl
-or-right false b e = e
-
 -- atoms that are the same are equal, or the one is the other with its sides exchanged
 pub same_cases : (a b : Atom) → is_same a b ≡ true → (a ≡ b) ⊎ (flipped a ≡ b)
 same_cases (Holds p ss) (Holds q ts) e =
-    let r = and-parts _ _ e in
+    let r = and_parts _ _ e in
     let h = symbol_eq-true p q r.0 in
     let k = terms_eq-same ss ts r.1 in
     inl (λ i. Holds (h i) (k i))
 same_cases (Holds p ss) (Equal u v) e = absurd (false≢true e)
 same_cases (Equal s t) (Holds q ts) e = absurd (false≢true e)
-same_cases (Equal s t) (Equal u v) e = elim (or-cases _ _ e) [
-  | inl here ↦ let r = and-parts _ _ here in let h = term_eq-true s u r.0 in let k = term_eq-true t v r.1 in inl (λ i. Equal (h i) (k i))
-  | inr there ↦ let r = and-parts _ _ there in let h = term_eq-true s v r.0 in let k = term_eq-true t u r.1 in inr (λ i. Equal (k i) (h i))
+same_cases (Equal s t) (Equal u v) e = elim (or_cases _ _ e) [
+  | inl here ↦ let r = and_parts _ _ here in let h = term_eq-true s u r.0 in let k = term_eq-true t v r.1 in inl (λ i. Equal (h i) (k i))
+  | inr there ↦ let r = and_parts _ _ there in let h = term_eq-true s v r.0 in let k = term_eq-true t u r.1 in inr (λ i. Equal (k i) (h i))
 ]
 
 pub same_self : (a : Atom) → is_same a a ≡ true
-same_self (Holds p ts) = and-both _ _ (symbol_eq-refl p) (terms_eq-refl ts)
-same_self (Equal s t) = or-left _ _ (and-both _ _ (term_eq-refl s) (term_eq-refl t))
+same_self (Holds p ts) = and_from _ _ (symbol_eq-refl p) (terms_eq-refl ts)
+same_self (Equal s t) = or_left _ _ (and_from _ _ (term_eq-refl s) (term_eq-refl t))
 
 pub same_flipped : (a : Atom) → is_same a (flipped a) ≡ true
-same_flipped (Holds p ts) = and-both _ _ (symbol_eq-refl p) (terms_eq-refl ts)
-same_flipped (Equal s t) = or-right (term_eq s t && term_eq t s) _ (and-both _ _ (term_eq-refl s) (term_eq-refl t))
+same_flipped (Holds p ts) = and_from _ _ (symbol_eq-refl p) (terms_eq-refl ts)
+same_flipped (Equal s t) = or_right (term_eq s t && term_eq t s) _ (and_from _ _ (term_eq-refl s) (term_eq-refl t))
 
 pub flipped_twice : (a : Atom) → flipped (flipped a) ≡ a
 flipped_twice (Holds p ts) = refl

@@ -1,5 +1,5 @@
 -- Laws with their proofs, not definitions that a reader must believe: induction over terms, and the equations of the folds.
-use Rattle.std.proofs.lemmas.Bool.{eqb-true, false≢true}
+use Rattle.std.proofs.lemmas.Bool.{eqb-true, false≢true, and_parts, and_from}
 use Rattle.std.proofs.Common.{eq-eqb, ◌≡◌, ℕ, ◌+◌, ◌<◌, Bool, true, false, ◌&&◌, ◌==◌, List, [], ◌∷◌, ◌++◌, map, sum, arith, refl, sym, subst, ap, ◌∙◌}
 use Rattle.std.specs.List.{flat_map, concat, list_all}
 use Rattle.spl_terms.specs.declared.term.Symbol.{Symbol}
@@ -116,16 +116,9 @@ kind_eq-true Sort Predicate e = absurd (false≢true e)
 pub symbol_eq-refl : (f : Symbol) → symbol_eq f f ≡ true
 symbol_eq-refl f = ap (λ b. b && kind_eq f.kind f.kind) (eq-eqb f.number f.number refl) ∙ kind_eq-refl f.kind
 
-pub and-parts : (a b : Bool) → (a && b) ≡ true → (a ≡ true) × (b ≡ true)
-and-parts true b e = (refl, e)
-and-parts false b e = absurd (false≢true e)
-
-pub and-both : (a b : Bool) → a ≡ true → b ≡ true → (a && b) ≡ true
-and-both a b e f = ap (λ c. c && b) e ∙ f
-
 pub symbol_eq-true : (f g : Symbol) → symbol_eq f g ≡ true → f ≡ g
 symbol_eq-true f g e =
-    let p : (f.number == g.number) ≡ true × kind_eq f.kind g.kind ≡ true = and-parts _ _ e in
+    let p : (f.number == g.number) ≡ true × kind_eq f.kind g.kind ≡ true = and_parts _ _ e in
     let n : f.number ≡ g.number = eqb-true f.number g.number p.0 in
     let k : f.kind ≡ g.kind = kind_eq-true f.kind g.kind p.1 in
     λ i. record { number = n i; kind = k i }
@@ -137,7 +130,7 @@ terms_eq-true [] each [] e = refl
 terms_eq-true [] each (t ∷ ts) e = absurd (false≢true e)
 terms_eq-true (s ∷ ss) each [] e = absurd (false≢true e)
 terms_eq-true (s ∷ ss) each (t ∷ ts) e =
-    let p : (term_eq s t ≡ true) × (terms_eq ss ts ≡ true) = and-parts _ _ e in
+    let p : (term_eq s t ≡ true) × (terms_eq ss ts ≡ true) = and_parts _ _ e in
     let h : s ≡ t = each.0 t p.0 in
     let r : ss ≡ ts = terms_eq-true ss each.1 ts p.1 in
     λ i. h i ∷ r i
@@ -151,7 +144,7 @@ term_eq-true =
     (λ f ss each. term_induction (λ t. term_eq (App f ss) t ≡ true → App f ss ≡ t)
     (λ w e. absurd (false≢true (sym (term_eq-App-Var f ss w) ∙ e)))
     (λ g ts _ e.
-    let p : (symbol_eq f g ≡ true) × (terms_eq ss ts ≡ true) = and-parts _ _ (sym (term_eq-App-App f ss g ts) ∙ e) in
+    let p : (symbol_eq f g ≡ true) × (terms_eq ss ts ≡ true) = and_parts _ _ (sym (term_eq-App-App f ss g ts) ∙ e) in
     let h : f ≡ g = symbol_eq-true f g p.0 in
     let r : ss ≡ ts = terms_eq-true ss each ts p.1 in
     λ i. App (h i) (r i)))
@@ -161,14 +154,14 @@ terms_eq-same [] [] e = refl
 terms_eq-same [] (t ∷ ts) e = absurd (false≢true e)
 terms_eq-same (s ∷ ss) [] e = absurd (false≢true e)
 terms_eq-same (s ∷ ss) (t ∷ ts) e =
-    let p : (term_eq s t ≡ true) × (terms_eq ss ts ≡ true) = and-parts _ _ e in
+    let p : (term_eq s t ≡ true) × (terms_eq ss ts ≡ true) = and_parts _ _ e in
     let h : s ≡ t = term_eq-true s t p.0 in
     let r : ss ≡ ts = terms_eq-same ss ts p.1 in
     λ i. h i ∷ r i
 
 all_refl : (ts : List Term) → Each (λ t. term_eq t t ≡ true) ts → terms_eq ts ts ≡ true
 all_refl [] each = refl
-all_refl (t ∷ ts) each = and-both (term_eq t t) (terms_eq ts ts) each.0 (all_refl ts each.1)
+all_refl (t ∷ ts) each = and_from (term_eq t t) (terms_eq ts ts) each.0 (all_refl ts each.1)
 
 pub term_eq-refl : (t : Term) → term_eq t t ≡ true
 term_eq-refl =
@@ -178,7 +171,7 @@ term_eq-refl =
 
 pub terms_eq-refl : (ts : List Term) → terms_eq ts ts ≡ true
 terms_eq-refl [] = refl
-terms_eq-refl (t ∷ ts) = and-both (term_eq t t) (terms_eq ts ts) (term_eq-refl t) (terms_eq-refl ts)
+terms_eq-refl (t ∷ ts) = and_from (term_eq t t) (terms_eq ts ts) (term_eq-refl t) (terms_eq-refl ts)
 
 -- ---- each variable replaced by itself
 
@@ -195,3 +188,8 @@ replace-itself =
 pub replace_all-itself : (ts : List Term) → map (replace (λ v. Var v)) ts ≡ ts
 replace_all-itself [] = refl
 replace_all-itself (t ∷ ts) = λ i. replace-itself t i ∷ replace_all-itself ts i
+
+-- two applications that are the same as far as tests of their symbols and arguments say
+pub equal_apps : (s t : Term) (f g : Symbol) (ss ts as' bs : List Term) (q r : Bool) → s ≡ App f ss → t ≡ App g ts → q ≡ symbol_eq f g → q ≡ true → as' ≡ ss → bs ≡ ts → r ≡ terms_eq as' bs → r ≡ term_eq s t
+equal_apps s t f g ss ts as' bs q r left right is here first second tested =
+    tested ∙ (λ i. terms_eq (first i) (second i)) ∙ ap (λ b. b && terms_eq ss ts) (sym (sym is ∙ here)) ∙ sym (term_eq-App-App f ss g ts) ∙ (λ i. term_eq (sym left i) (sym right i))

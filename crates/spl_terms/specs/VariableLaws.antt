@@ -4,22 +4,18 @@ use Rattle.std.specs.Prelude.{slice_index}
 use Rattle.std.specs.List.{list_any, flat_map}
 use Rattle.std.proofs.lemmas.Grind.{flat_map-append}
 use Rattle.std.proofs.lemmas.List.Folds.{list_any-append}
-use Rattle.std.proofs.lemmas.Bool.{eqb-true, false≢true}
-use Rattle.spl_terms.specs.declared.term.Term.{Term, Var, App}
+use Rattle.std.proofs.lemmas.List.{map-append}
+use Rattle.std.proofs.lemmas.Bool.{eqb-true, false≢true, or_cases, or_left, or_right}
+use Rattle.spl_terms.specs.declared.term.Term.{Term, Var}
 use Rattle.spl_terms.specs.declared.atom.Atom.{Atom}
 use Rattle.spl_terms.specs.declared.atom.Atom.TheVariants.{Holds, Equal}
 use Rattle.spl_terms.specs.declared.clause.Clause.{Clause}
 use Rattle.spl_terms.specs.Terms.{replace, term_variables}
-use Rattle.spl_terms.specs.Clauses.{atom_variables, clause_variables, noted, firsts, place_in, replace_in_atom, replace_in}
+use Rattle.spl_terms.specs.Clauses.{atom_variables, clause_variables, noted, place_in, replace_in_atom, replace_in}
+use Rattle.spl_terms.specs.BoolLaws.{equally}
 use Rattle.spl_terms.specs.TermLaws.{Each, term_induction, term_variables-Var, term_variables-App, replace-Var, replace-App}
-use Rattle.spl_terms.specs.SameLaws.{or-cases, or-left, or-right}
 
 -- ---- tests
-
-pub equally : (x y : Bool) → (x ≡ true → y ≡ true) → (y ≡ true → x ≡ true) → x ≡ y
-equally true y h k = sym (h refl)
-equally false true h k = k refl
-equally false false h k = refl
 
 pub itself : (v : ℕ) → (v == v) ≡ true
 itself v = eq-eqb v v refl
@@ -34,10 +30,10 @@ abbrev pub has : ℕ → List ℕ → Bool
 has v = list_any (λ w. v == w)
 
 pub has-append-left : (v : ℕ) (vs ws : List ℕ) → has v vs ≡ true → has v (vs ++ ws) ≡ true
-has-append-left v vs ws e = list_any-append (λ w. v == w) vs ws ∙ or-left _ _ e
+has-append-left v vs ws e = list_any-append (λ w. v == w) vs ws ∙ or_left _ _ e
 
 pub has-append-right : (v : ℕ) (vs ws : List ℕ) → has v ws ≡ true → has v (vs ++ ws) ≡ true
-has-append-right v vs ws e = list_any-append (λ w. v == w) vs ws ∙ or-right (has v vs) _ e
+has-append-right v vs ws e = list_any-append (λ w. v == w) vs ws ∙ or_right (has v vs) _ e
 
 pub has-noted : (v x : ℕ) (os : List ℕ) → has v os ≡ true → has v (noted os x) ≡ true
 has-noted v x os e = by_test (has x os)
@@ -51,7 +47,7 @@ noted-has v os = by_test (has v os) refl
   where
     by_test : (a : Bool) → has v os ≡ a → has v (if a then os else os ++ v ∷ []) ≡ true
     by_test true e = e
-    by_test false e = has-append-right v os (v ∷ []) (or-left (v == v) false (itself v))
+    by_test false e = has-append-right v os (v ∷ []) (or_left (v == v) false (itself v))
 
 -- what is noted was there, or is the new number
 noted-cases : (P : ℕ → Type 0) (v x : ℕ) (os : List ℕ) → (has v os ≡ true → P v) → P x → has v (noted os x) ≡ true → P v
@@ -59,9 +55,9 @@ noted-cases P v x os there here = by_test (has x os)
   where
     by_test : (a : Bool) → has v (if a then os else os ++ x ∷ []) ≡ true → P v
     by_test true e = there e
-    by_test false e = elim (or-cases (has v os) (has v (x ∷ [])) (sym (list_any-append (λ w. v == w) os (x ∷ [])) ∙ e)) [
+    by_test false e = elim (or_cases (has v os) (has v (x ∷ [])) (sym (list_any-append (λ w. v == w) os (x ∷ [])) ∙ e)) [
       | inl before ↦ there before
-      | inr last ↦ elim (or-cases (v == x) false last) [
+      | inr last ↦ elim (or_cases (v == x) false last) [
         | inl same ↦ subst P (sym (eqb-true v x same)) here
         | inr none ↦ absurd (false≢true none)
       ]
@@ -73,7 +69,7 @@ has-fold v (x ∷ xs) os e = has-fold v xs (noted os x) (has-noted v x os e)
 
 pub has-firsts : (v : ℕ) (xs os : List ℕ) → has v xs ≡ true → has v (fold noted os xs) ≡ true
 has-firsts v [] os e = absurd (false≢true e)
-has-firsts v (x ∷ xs) os e = elim (or-cases (v == x) (has v xs) e) [
+has-firsts v (x ∷ xs) os e = elim (or_cases (v == x) (has v xs) e) [
   | inl here ↦ has-fold v xs (noted os x) (subst (λ (y : ℕ). has v (noted os y) ≡ true) (eqb-true v x here) (noted-has v os))
   | inr there ↦ has-firsts v xs (noted os x) there
 ]
@@ -86,7 +82,7 @@ place-below (o ∷ os) v e = by_test (o == v) refl (place-below os v)
   where
     by_test : (t : Bool) → (o == v) ≡ t → (has v os ≡ true → place_in os v < length os) → cond (not t) (1 + place_in os v) 0 < suc (length os)
     by_test true f more = omega arith
-    by_test false f more = elim (or-cases (v == o) (has v os) e) [
+    by_test false f more = elim (or_cases (v == o) (has v os) e) [
       | inl here ↦ absurd (false≢true (sym f ∙ eq-eqb o v (sym (eqb-true v o here))))
       | inr there ↦ (let h = more there in omega (arith, h))
     ]
@@ -97,7 +93,7 @@ place-stands (o ∷ os) v e = by_test (o == v) refl (place-stands os v)
   where
     by_test : (t : Bool) → (o == v) ≡ t → (has v os ≡ true → slice_index os (place_in os v) ≡ v) → slice_index (o ∷ os) (cond (not t) (1 + place_in os v) 0) ≡ v
     by_test true f more = eqb-true o v f
-    by_test false f more = elim (or-cases (v == o) (has v os) e) [
+    by_test false f more = elim (or_cases (v == o) (has v os) e) [
       | inl here ↦ absurd (false≢true (sym f ∙ eq-eqb o v (sym (eqb-true v o here))))
       | inr there ↦ let one : 1 + place_in os v ≡ suc (place_in os v) = omega arith in ap (slice_index (o ∷ os)) one ∙ more there
     ]
@@ -114,16 +110,12 @@ place-apart (x ∷ os) v w e p = by_test (x == v) (x == w) refl refl p (λ h q. 
 
 -- ---- renaming numbers
 
-pub map-append : (n : ℕ → ℕ) (xs ys : List ℕ) → map n (xs ++ ys) ≡ map n xs ++ map n ys
-map-append n [] ys = refl
-map-append n (x ∷ xs) ys = ap (λ l. n x ∷ l) (map-append n xs ys)
-
 -- each number of the one list is in the other one
 abbrev Within : List ℕ → List ℕ → Type 0
 Within os vs = (v : ℕ) → has v os ≡ true → has v vs ≡ true
 
 within_rest : (o : ℕ) (os vs : List ℕ) → Within (o ∷ os) vs → Within os vs
-within_rest o os vs w v e = w v (or-right (v == o) _ e)
+within_rest o os vs w v e = w v (or_right (v == o) _ e)
 
 -- a renaming that gives different numbers of the list different names keeps what comes first, and at which place
 module _ (n : ℕ → ℕ) (vs : List ℕ) (apart : (v w : ℕ) → has v vs ≡ true → n v ≡ n w → v ≡ w) where
@@ -143,7 +135,7 @@ module _ (n : ℕ → ℕ) (vs : List ℕ) (apart : (v w : ℕ) → has v vs ≡
 
   pub fold-map : (xs os : List ℕ) → Within xs vs → fold noted (map n os) (map n xs) ≡ map n (fold noted os xs)
   fold-map [] os w = refl
-  fold-map (x ∷ xs) os w = ap (λ o. fold noted o (map n xs)) (noted-map x os (w x (or-left (x == x) _ (itself x)))) ∙ fold-map xs (noted os x) (within_rest x xs vs w)
+  fold-map (x ∷ xs) os w = ap (λ o. fold noted o (map n xs)) (noted-map x os (w x (or_left (x == x) _ (itself x)))) ∙ fold-map xs (noted os x) (within_rest x xs vs w)
 
   pub place-map : (x : ℕ) (os : List ℕ) → has x vs ≡ true → place_in (map n os) (n x) ≡ place_in os x
   place-map x [] h = refl

@@ -1,3 +1,4 @@
+//! Whether two clauses are equal but for the numbers of their variables, without a copy of them.
 ghost use Rattle.std.specs.Prelude.{◌≡◌, ◌↔◌, IsTrue};
 ghost use Rattle.spl_terms.specs.declared.clause.Clause.{Clause};
 ghost use Rattle.spl_terms.specs.Clauses.{renumbered, in_order};

@@ -1,16 +1,15 @@
 -- What each answer to one equation means.
 use Rattle.std.proofs.Common.{◌≡◌, ◌⊎◌, inl, inr, ℕ, suc, Bool, true, false, ◌&&◌, ◌==◌, if◌then◌else◌, eq-eqb, List, [], ◌∷◌, length, map, refl, sym, ap, subst, ◌∙◌}
 use Rattle.std.specs.List.{zip}
-use Rattle.std.proofs.lemmas.Bool.{eqb-true, false≢true}
+use Rattle.std.proofs.lemmas.Bool.{eqb-true, false≢true, and_parts}
 use Rattle.spl_terms.specs.declared.term.Symbol.{Symbol}
 use Rattle.spl_terms.specs.declared.term.Term.{Term, Var, App, out-Term}
 use Rattle.spl_terms.specs.declared.term.Term.TheOpen as layer
 use Rattle.spl_terms.specs.declared.term.Term.TheViews.{outs-Var, outs-App}
 use Rattle.spl_terms.specs.Terms.{symbol_eq, term_eq, replace}
-use Rattle.spl_terms.proofs.TermLemmas.{term_induction, and-parts, symbol_eq-true, symbol_eq-refl, term_eq-true, term_eq-refl}
-use Rattle.spl_truth.proofs.Replacing.{replace-Var, replace-App}
+use Rattle.spl_terms.specs.TermLaws.{term_induction, symbol_eq-true, symbol_eq-refl, term_eq-true, term_eq-refl, replace-Var, replace-App}
 use Rattle.spl_truth.specs.Unifiers.{occurs, Action, trivial, eliminate, decompose, clash, action_of_variable, action_apart, action}
-use Rattle.spl_truth.proofs.Occurring.{same_arguments, same_symbols, no_cycle}
+use Rattle.spl_truth.specs.OccurrenceLaws.{same_arguments, same_symbols, no_cycle}
 
 pub record Split (a b : Term) (more : List (Term × Term)) : Type 0 where
   pub symbol : Symbol
@@ -54,7 +53,7 @@ meant_applications f g ss ts = by_test (symbol_eq f g && (length ss == length ts
   where
     by_test : (c : Bool) → (symbol_eq f g && (length ss == length ts)) ≡ c → Means (App f ss) (App g ts) (if c then decompose (zip ss ts) else clash)
     by_test true e =
-        let p : (symbol_eq f g ≡ true) × ((length ss == length ts) ≡ true) = and-parts _ _ e in
+        let p : (symbol_eq f g ≡ true) × ((length ss == length ts) ≡ true) = and_parts _ _ e in
         record { symbol = f; lefts = ss; rights = ts; left_is = refl; right_is = ap (λ h. App h ts) (sym (symbol_eq-true f g p.0)); as_many = eqb-true _ _ p.1; are = refl }
     by_test false e = λ h same.
         let made : App f (map (replace h) ss) ≡ App g (map (replace h) ts) = sym (replace-App h f ss) ∙ same ∙ replace-App h g ts in

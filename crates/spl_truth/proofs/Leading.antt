@@ -2,12 +2,13 @@
 use Rattle.std.proofs.Common.{◌≡◌, ℕ, zero, suc, ◌+◌, ◌≤◌, ◌<◌, Bool, true, List, [], ◌∷◌, ◌++◌, Option, Some, None, refl, sym, ap, subst, ◌∙◌, arith}
 use Rattle.spl_terms.specs.declared.term.Term.{Term, Var}
 use Rattle.spl_terms.specs.Terms.{term_symbols, replace}
-use Rattle.spl_terms.proofs.TermLemmas.{term_symbols-positive}
+use Rattle.spl_terms.specs.TermLaws.{term_symbols-positive}
 use Rattle.spl_truth.specs.Unifiers.{Action, trivial, eliminate, decompose, clash, action, Found, solved, bound, unsolvable, go_on, next_elimination, first_elimination, left_symbols, bind, bind_next, solution, Leads, ends, skips, binds, splits, fails}
 use Rattle.spl_truth.proofs.Actions.{Means, meant}
 use Rattle.spl_truth.proofs.Stepping.{first_elimination-cons, first_elimination-nil}
-use Rattle.spl_truth.proofs.Solving.{instance_at, AllWithin, AllWithin-append, IsWithin, IsFine, CanBind, bind_fine, within-replace, split_within}
-use Rattle.spl_truth.proofs.Unifying.{unbound_below, bind_fewer, MayGoOn, may_go_on, can_bind, left-split, left-append, left-cons, at_first, all_unbound, in_either, left_within, right_within}
+use Rattle.spl_truth.specs.BindingLaws.{instance_at, IsWithin, IsFine, CanBind, bind_fine, within-replace, unbound_below, bind_fewer, left-append, left-cons, at_first, all_unbound}
+use Rattle.spl_truth.proofs.Solving.{AllWithin, AllWithin-append, split_within}
+use Rattle.spl_truth.proofs.Unifying.{MayGoOn, may_go_on, can_bind, left-split, in_either, left_within, right_within}
 
 -- what is left to lead to the answer
 abbrev Onward : (ℕ → Term) → Found → Option (ℕ → Term) → Type 0

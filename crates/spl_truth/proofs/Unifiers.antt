@@ -1,28 +1,13 @@
 -- The laws of the unifier, for two terms whose variables are below a number.
-use Rattle.std.proofs.Common.{◌≡◌, inl, inr, ℕ, ◌≤◌, ◌<◌, Bool, true, false, ◌||◌, ◌==◌, List, [], ◌∷◌, Option, Some, None, option_map, MatchOption, refl, sym, subst, ◌↔◌, arith}
-use Rattle.std.specs.List.{list_any, AllByRecursion}
-use Rattle.std.proofs.lemmas.Bool.{eqb-true, false≢true}
-use Rattle.std.proofs.lemmas.List.Elements.{recursion_from_All}
+use Rattle.std.proofs.Common.{◌≡◌, inl, inr, ℕ, ◌≤◌, ◌<◌, Bool, true, false, [], ◌∷◌, Option, Some, None, option_map, MatchOption, refl, sym, subst, ◌↔◌, arith}
+use Rattle.std.proofs.lemmas.Bool.{or_cases}
 use Rattle.spl_terms.specs.declared.term.Term.{Term, Var}
-use Rattle.spl_terms.specs.Terms.{term_variables}
 use Rattle.spl_truth.specs.Truth.{entry}
 use Rattle.spl_truth.specs.Unifiers.{occurs, solution, entries_below, unifier, HasVariablesBelow, HasNoUnifier, IsMostGeneral, Leads}
-use Rattle.spl_truth.proofs.Occurring.{or_cases}
+use Rattle.spl_truth.specs.OccurrenceLaws.{occurs_below}
 use Rattle.spl_truth.proofs.Unifying.{in_either, Unifies, unifies}
 use Rattle.spl_truth.proofs.Leading.{solution_leads, leads_only}
-use Rattle.spl_truth.proofs.Entries.{entry-entries_below}
-
-pub any_of_all : (n : ℕ) (x : ℕ) (vs : List ℕ) → AllByRecursion (λ v. v < n) vs → list_any (λ w. x == w) vs ≡ true → x < n
-any_of_all n x [] all o = absurd (false≢true o)
-any_of_all n x (v ∷ vs) all o = by_test (x == v) refl o (any_of_all n x vs all.1)
-  where
-    by_test : (b : Bool) → (x == v) ≡ b → (b || list_any (λ w. x == w) vs) ≡ true → (list_any (λ w. x == w) vs ≡ true → x < n) → x < n
-    by_test true e o later = subst (λ w. w < n) (sym (eqb-true x v e)) all.0
-    by_test false e o later = later o
-
--- what occurs in a term whose variables are below n is below n
-pub occurs_below : (n : ℕ) (t : Term) → HasVariablesBelow n t → (v : ℕ) → occurs v t ≡ true → v < n
-occurs_below n t all v o = any_of_all n v (term_variables t) (recursion_from_All (λ v. v < n) (term_variables t) all) o
+use Rattle.spl_truth.specs.EntryLaws.{entry-entries_below}
 
 pub either_below : (n : ℕ) (a b : Term) → HasVariablesBelow n a → HasVariablesBelow n b → (v : ℕ) → in_either a b v ≡ true → v < n
 either_below n a b x y v o = elim (or_cases (occurs v a) _ o) [

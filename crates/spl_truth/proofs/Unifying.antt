@@ -1,65 +1,16 @@
 -- The laws of the unifier.
-use Rattle.std.proofs.Common.{◌≡◌, ◌⊎◌, inl, inr, ℕ, zero, suc, ◌+◌, ◌≤◌, ◌<◌, Bool, true, false, ◌||◌, if◌then◌else◌, List, [], ◌∷◌, ◌++◌, length, map, sum, Option, Some, None, refl, sym, ap, subst, ◌∙◌, arith}
+use Rattle.std.proofs.Common.{◌≡◌, inl, inr, ℕ, zero, suc, ◌+◌, ◌≤◌, ◌<◌, Bool, true, ◌||◌, List, [], ◌∷◌, ◌++◌, length, map, sum, Option, Some, None, refl, sym, ap, subst, ◌∙◌, arith}
 use Rattle.std.specs.List.{zip}
-use Rattle.std.proofs.lemmas.Bool.{false≢true}
-use Rattle.std.proofs.lemmas.List.Sums.{sum_by-cons, sum_by-append}
+use Rattle.std.proofs.lemmas.Bool.{or_left, or_right, or_from}
+use Rattle.std.proofs.lemmas.List.Sums.{sum_by-cons}
 use Rattle.spl_terms.specs.declared.term.Term.{Term, Var}
-use Rattle.spl_terms.specs.Terms.{term_eq, term_symbols, replace}
-use Rattle.spl_terms.proofs.TermLemmas.{term_symbols-App, term_symbols-positive, term_eq-true, term_eq-refl}
-use Rattle.spl_truth.proofs.Replacing.{replace-Var}
+use Rattle.spl_terms.specs.Terms.{term_symbols, replace}
+use Rattle.spl_terms.specs.TermLaws.{term_symbols-App, term_symbols-positive, replace-Var, replace-itself}
 use Rattle.spl_truth.specs.Unifiers.{occurs, Action, trivial, eliminate, decompose, clash, Found, solved, bound, unsolvable, go_on, next_elimination, left_symbols, bind, bind_next, solution, IsMostGeneral}
-use Rattle.spl_truth.proofs.Occurring.{agree, or_left, or_right, replace-themselves, occurs-self}
+use Rattle.spl_truth.specs.OccurrenceLaws.{agree}
 use Rattle.spl_truth.proofs.Actions.{Split, Bound, Means, meant}
-use Rattle.spl_truth.proofs.Solving.{Solves, IsInstance, instance_at, Solves-append, Solves-first, Solves-rest, split_solved, solved_split, bound_solved, solved_bound, cap, IsWithin, AllWithin, IsFine, CanBind, cap-inside, inside_cap, within-replace, AllWithin-append, replaced_arguments, split_within, bind_instance, instance_bind, bind_fine, bound_at, was_unbound}
-
--- ---- how many variables are unbound
-
-abbrev pub is_unbound : (ℕ → Term) → ℕ → Bool
-is_unbound s v = term_eq (s v) (Var v)
-
--- of those below n
-abbrev pub unbound_below : ℕ → (ℕ → Term) → ℕ
-unbound_below zero s = 0
-unbound_below (suc n) s = (if is_unbound s n then 1 else 0) + unbound_below n s
-
-one_at_most : (a b : Bool) → (a ≡ true → b ≡ true) → (if a then 1 else 0) ≤ (if b then 1 else 0)
-one_at_most true true h = omega arith
-one_at_most true false h = absurd (false≢true (h refl))
-one_at_most false true h = omega arith
-one_at_most false false h = omega arith
-
-no_more : (s r : ℕ → Term) → ((w : ℕ) → r w ≡ Var w → s w ≡ Var w) → (n : ℕ) → unbound_below n r ≤ unbound_below n s
-no_more s r h zero = omega arith
-no_more s r h (suc n) = omega (arith, no_more s r h n, one_at_most (is_unbound r n) (is_unbound s n) (λ e. ap (λ t. term_eq t (Var n)) (h n (term_eq-true _ _ e)) ∙ term_eq-refl (Var n)))
-
-at_or_before : (v n : ℕ) → v < suc n → (v < n) ⊎ (v ≡ n)
-at_or_before v n h = grind arith
-
-module _ (s r : ℕ → Term) (h : (w : ℕ) → r w ≡ Var w → s w ≡ Var w) (v : ℕ) (free : s v ≡ Var v) (taken : r v ≡ Var v → ⊥) where
-  fewer_here : (n : ℕ) → v ≡ n → unbound_below (suc n) r < unbound_below (suc n) s
-  fewer_here n same =
-      let yes : is_unbound s n ≡ true = subst (λ w. is_unbound s w ≡ true) same (ap (λ t. term_eq t (Var v)) free ∙ term_eq-refl (Var v)) in
-      let one : ℕ = 1 in
-      let none : ℕ = 0 in
-      let p : (if is_unbound s n then one else none) ≡ one = ap (λ b. if b then one else none) yes in
-      by_test (is_unbound r n) refl p
-    where
-      by_test : (b : Bool) → is_unbound r n ≡ b → (let one : ℕ = 1 in (if is_unbound s n then one else 0) ≡ one) → (if b then 1 else 0) + unbound_below n r < (if is_unbound s n then 1 else 0) + unbound_below n s
-      by_test true e p = absurd (taken (subst (λ w. r w ≡ Var w) (sym same) (term_eq-true _ _ e)))
-      by_test false e p = omega (arith, p, no_more s r h n)
-
-  pub fewer : (n : ℕ) → v < n → unbound_below n r < unbound_below n s
-  fewer zero below = absurd (omega arith)
-  fewer (suc n) below = elim (at_or_before v n below) [
-    | inl lt ↦ omega (arith, fewer n lt, one_at_most (is_unbound r n) (is_unbound s n) (λ e. ap (λ t. term_eq t (Var n)) (h n (term_eq-true _ _ e)) ∙ term_eq-refl (Var n)))
-    | inr same ↦ fewer_here n same
-  ]
-
-pub bind_fewer : (vars : ℕ) (n : ℕ → Bool) (s : ℕ → Term) (v : ℕ) (t : Term) → IsFine n s → CanBind n s v t → v < vars → unbound_below vars (bind v t s) < unbound_below vars s
-bind_fewer vars n s v t fine can below = fewer s (bind v t s) (was_unbound n s v t fine can) v can.free (λ e. taken (sym (bound_at n s v t fine can) ∙ e)) vars below
-  where
-    taken : t ≡ Var v → ⊥
-    taken e = false≢true (sym can.apart ∙ ap (occurs v) e ∙ occurs-self v)
+use Rattle.spl_truth.proofs.Solving.{Solves, Solves-append, Solves-first, Solves-rest, split_solved, solved_split, bound_solved, solved_bound, AllWithin, AllWithin-append, replaced_arguments, split_within}
+use Rattle.spl_truth.specs.BindingLaws.{IsInstance, instance_at, cap, IsWithin, IsFine, CanBind, cap-inside, inside_cap, within-replace, bind_instance, instance_bind, bind_fine, unbound_below, bind_fewer, left-append, left-cons, at_first, all_unbound}
 
 -- ---- up to the next binding
 
@@ -103,12 +54,6 @@ left-zip s (x ∷ ss) (t ∷ ts) m e =
 
 pub left-split : (s : ℕ → Term) (a b : Term) (more : List (Term × Term)) → Split a b more → replace s a ≡ a → left_symbols s more + 1 ≡ term_symbols a
 left-split s a b more p e = omega (arith, ap (left_symbols s) p.are, left-zip s p.lefts p.rights p.as_many (replaced_arguments s a _ _ p.left_is e), ap term_symbols p.left_is, term_symbols-App p.symbol p.lefts)
-
-pub left-append : (s : ℕ → Term) (es fs : List (Term × Term)) → left_symbols s (es ++ fs) ≡ left_symbols s es + left_symbols s fs
-left-append s es fs = sum_by-append (λ (p : Term × Term). term_symbols (replace s p.0)) es fs
-
-pub left-cons : (s : ℕ → Term) (e : Term × Term) (es : List (Term × Term)) → left_symbols s (e ∷ es) ≡ term_symbols (replace s e.0) + left_symbols s es
-left-cons s e es = sum_by-cons (λ (p : Term × Term). term_symbols (replace s p.0)) e es
 
 module _ (n : ℕ → Bool) (s : ℕ → Term) (fine : IsFine n s) where
   twice : (t : Term) → replace s (replace s t) ≡ replace s t
@@ -202,22 +147,15 @@ module _ (vars : ℕ) (n : ℕ → Bool) (below : (v : ℕ) → n v ≡ true →
   reaches zero s es fine in' = reaches_step (λ _ _. None) (λ _ _ _ _. tt {0}) s es fine _ (may_go_on n s fine (left_symbols s es) es in') (λ g is. found_solves g s is (left_symbols s es) es)
   reaches (suc m) s es fine in' = reaches_step _ (reaches m) s es fine _ (may_go_on n s fine (left_symbols s es) es in') (λ g is. found_solves g s is (left_symbols s es) es)
 
-pub at_first : (n : ℕ → Bool) → IsFine n Var
-at_first n = record { idempotent = λ v. replace-Var Var v; within = λ v h. replace-Var (cap n) v ∙ cap-inside n v h; outside = λ v h. refl }
-
-pub all_unbound : (n : ℕ) → unbound_below n Var ≤ n
-all_unbound zero = omega arith
-all_unbound (suc n) = omega (arith, all_unbound n, one_at_most (is_unbound Var n) true (λ _. refl))
-
 -- the variables of the two terms
 abbrev pub in_either : Term → Term → ℕ → Bool
 in_either a b v = occurs v a || occurs v b
 
 pub left_within : (a b : Term) → IsWithin (in_either a b) a
-left_within a b = agree (cap (in_either a b)) Var a (λ x o. cap-inside (in_either a b) x (or_left _ _ o)) ∙ replace-themselves a
+left_within a b = agree (cap (in_either a b)) Var a (λ x o. cap-inside (in_either a b) x (or_left _ _ o)) ∙ replace-itself a
 
 pub right_within : (a b : Term) → IsWithin (in_either a b) b
-right_within a b = agree (cap (in_either a b)) Var b (λ x o. cap-inside (in_either a b) x (or_right (occurs x a) _ o)) ∙ replace-themselves b
+right_within a b = agree (cap (in_either a b)) Var b (λ x o. cap-inside (in_either a b) x (or_right (occurs x a) _ o)) ∙ replace-itself b
 
 abbrev pub Unifies : Term → Term → Option (ℕ → Term) → Type 0
 Unifies a b None = (g : ℕ → Term) → replace g a ≡ replace g b → ⊥
@@ -229,9 +167,6 @@ unifies n a b below = by_answer _ (λ g e. reached n (in_either a b) below n Var
     all : AllWithin (in_either a b) ((a, b) ∷ [])
     all = (left_within a b, right_within a b, tt)
 
-    neither : (x y : Bool) → x ≡ false → y ≡ false → (x || y) ≡ false
-    neither x y p q = rw (p, q)
-
     by_answer : (o : Option (ℕ → Term)) → ((g : ℕ → Term) → replace g a ≡ replace g b → Reached g o) → Reaches (in_either a b) Var ((a, b) ∷ []) o → Unifies a b o
     by_answer None h k = h
-    by_answer (Some u) h k = record { unifies = (k.1 u k.0.idempotent).1.0; general = λ g e t. instance_at g u (h g e) t; idempotent = k.0.idempotent; others = λ v p q. k.0.outside v (neither _ _ p q) }
+    by_answer (Some u) h k = record { unifies = (k.1 u k.0.idempotent).1.0; general = λ g e t. instance_at g u (h g e) t; idempotent = k.0.idempotent; others = λ v p q. k.0.outside v (or_from _ _ p q) }

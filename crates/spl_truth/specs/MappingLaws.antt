@@ -3,22 +3,21 @@
 use Rattle.std.proofs.Common.{◌≡◌, ◌↔◌, ℕ, zero, suc, ◌+◌, ◌<◌, ◌≤◌, Bool, true, false, not, ◌||◌, cond, nat_lt, List, [], ◌∷◌, length, map, Option, Some, None, option_map, refl, sym, ap, ◌∙◌, subst, arith}
 use Rattle.std.specs.Prelude.{slice_get, IsSomeAnd}
 use Rattle.std.specs.List.{list_any, position_or_len}
-use Rattle.std.proofs.lemmas.Bool.{ltb-true, ltb-false, false≢true}
-use Rattle.std.proofs.lemmas.Option.{slice_get-map}
+use Rattle.std.proofs.lemmas.Bool.{ltb-true, ltb-false, false≢true, and_parts, and_from}
+use Rattle.std.proofs.lemmas.Option.{slice_get-map, none-some, same_Some, slice_get_within}
 use Rattle.spl_terms.specs.declared.term.Term.{Term}
 use Rattle.spl_terms.specs.declared.atom.Atom.{Atom}
 use Rattle.spl_terms.specs.Clauses.{is_same, replace_in_atom}
 use Rattle.spl_terms.specs.InOrder.{are_different}
-use Rattle.spl_terms.specs.ListLaws.{none≢some, same_item, get-within, get-there}
-use Rattle.spl_terms.specs.TermLaws.{and-parts, and-both}
+use Rattle.spl_terms.specs.ListLaws.{get-there}
 use Rattle.spl_terms.specs.SameLaws.{same_turned, same_joined}
 use Rattle.spl_truth.specs.Redundancy.{Maps, MapsApart}
 
 -- ---- different atoms, by their places
 
 none_at : (p : Atom → Bool) (xs : List Atom) (l : ℕ) (b : Atom) → list_any p xs ≡ false → slice_get xs l ≡ Some b → p b ≡ false
-none_at p [] l b h e = absurd (none≢some b e)
-none_at p (x ∷ xs) zero b h e = ap p (sym (same_item x b e)) ∙ (or_parts (p x) (list_any p xs) h).0
+none_at p [] l b h e = absurd (none-some b e)
+none_at p (x ∷ xs) zero b h e = ap p (sym (same_Some x b e)) ∙ (or_parts (p x) (list_any p xs) h).0
   where
     or_parts : (a b : Bool) → (a || b) ≡ false → (a ≡ false) × (b ≡ false)
     or_parts true b e = absurd (false≢true (sym e))
@@ -41,16 +40,16 @@ not_false true e = absurd (false≢true e)
 not_false false e = refl
 
 pub different-at : (xs : List Atom) (k l : ℕ) (a b : Atom) → are_different xs ≡ true → k < l → slice_get xs k ≡ Some a → slice_get xs l ≡ Some b → is_same b a ≡ false
-different-at [] k l a b d less e f = absurd (none≢some a e)
+different-at [] k l a b d less e f = absurd (none-some a e)
 different-at (x ∷ xs) k zero a b d less e f = absurd (omega arith)
 different-at (x ∷ xs) zero (suc l) a b d less e f =
-    ap (is_same b) (sym (same_item x a e)) ∙ none_at (λ c. is_same c x) xs l b (not_false _ (and-parts _ _ d).0) f
-different-at (x ∷ xs) (suc k) (suc l) a b d less e f = different-at xs k l a b (and-parts _ _ d).1 (omega arith) e f
+    ap (is_same b) (sym (same_Some x a e)) ∙ none_at (λ c. is_same c x) xs l b (not_false _ (and_parts _ _ d).0) f
+different-at (x ∷ xs) (suc k) (suc l) a b d less e f = different-at xs k l a b (and_parts _ _ d).1 (omega arith) e f
 
 pub at-different : (xs : List Atom) → ((k l : ℕ) (a b : Atom) → k < l → slice_get xs k ≡ Some a → slice_get xs l ≡ Some b → is_same b a ≡ false) → are_different xs ≡ true
 at-different [] h = refl
 at-different (x ∷ xs) h =
-    and-both _ _ (ap not (none_of (λ c. is_same c x) xs (λ l b e. h 0 (suc l) x b (omega arith) refl e)))
+    and_from _ _ (ap not (none_of (λ c. is_same c x) xs (λ l b e. h 0 (suc l) x b (omega arith) refl e)))
     (at-different xs (λ k l a b less e f. h (suc k) (suc l) a b (omega arith) e f))
 
 -- ---- the first atom that passes
@@ -69,8 +68,8 @@ there P None h = absurd h
 there P (Some b) h = (b, refl, h)
 
 passes_there : (p : Atom → Bool) (xs : List Atom) (k : ℕ) (b : Atom) → slice_get xs k ≡ Some b → p b ≡ true → list_any p xs ≡ true
-passes_there p [] k b e h = absurd (none≢some b e)
-passes_there p (x ∷ xs) zero b e h = ap (λ t. t || list_any p xs) (ap p (same_item x b e) ∙ h)
+passes_there p [] k b e h = absurd (none-some b e)
+passes_there p (x ∷ xs) zero b e h = ap (λ t. t || list_any p xs) (ap p (same_Some x b e) ∙ h)
 passes_there p (x ∷ xs) (suc k) b e h = later (p x) (passes_there p xs k b e h)
   where
     later : (t : Bool) → list_any p xs ≡ true → (t || list_any p xs) ≡ true
@@ -106,7 +105,7 @@ module _ (h : ℕ → Term) (atoms into : List Atom) (into_different : are_diffe
       by_order ⊥ (m.place k) (m.place l)
       (λ before. false≢true (sym (different-at into (m.place k) (m.place l) s.0 t.0 into_different before s.1 t.1) ∙ both))
       (λ after. false≢true (sym (different-at into (m.place l) (m.place k) t.0 s.0 into_different after t.1 s.1) ∙ same_turned t.0 s.0 both))
-      (λ equal. (let q = m.apart k l (get-within atoms k a e) (get-within atoms l b f) equal in omega (arith, q, less)))
+      (λ equal. (let q = m.apart k l (slice_get_within atoms k a e) (slice_get_within atoms l b f) equal in omega (arith, q, less)))
 
   apart_different : MapsApart h atoms into → are_different (map image atoms) ≡ true
   apart_different m = at-different (map image atoms) (λ k l a b less e f. (
@@ -115,8 +114,8 @@ module _ (h : ℕ → Term) (atoms into : List Atom) (into_different : are_diffe
       by_test b a (is_same b a) refl (λ g. same_places m k l x.0 y.0 less x.1 y.1 ((λ i. is_same (y.2 i) (x.2 i)) ∙ g))))
     where
       image_there : (o : Option Atom) (a : Atom) → option_map image o ≡ Some a → (c : Atom) × (o ≡ Some c) × (image c ≡ a)
-      image_there None a e = absurd (none≢some a e)
-      image_there (Some c) a e = (c, refl, same_item (image c) a e)
+      image_there None a e = absurd (none-some a e)
+      image_there (Some c) a e = (c, refl, same_Some (image c) a e)
 
       by_test : (x y : Atom) (t : Bool) → is_same x y ≡ t → (is_same x y ≡ true → ⊥) → is_same x y ≡ false
       by_test x y true e no' = absurd (no' e)
@@ -137,7 +136,7 @@ module _ (h : ℕ → Term) (atoms into : List Atom) (into_different : are_diffe
       let b = get-there atoms l within in
       let x = there _ (slice_get into (place_for (slice_get atoms k))) (maps_same m k a.0 a.1) in
       let y = there _ (slice_get into (place_for (slice_get atoms l))) (maps_same m l b.0 b.1) in
-      let e : x.0 ≡ y.0 = same_item x.0 y.0 (sym x.1 ∙ ap (slice_get into) same ∙ y.1) in
+      let e : x.0 ≡ y.0 = same_Some x.0 y.0 (sym x.1 ∙ ap (slice_get into) same ∙ y.1) in
       let both : is_same (image b.0) (image a.0) ≡ true = same_joined (image b.0) y.0 (image a.0) y.2 (ap (λ z. is_same z (image a.0)) (sym e) ∙ same_turned (image a.0) x.0 x.2) in
       false≢true (sym (different-at (map image atoms) k l (image a.0) (image b.0) d less (slice_get-map image atoms k ∙ ap (option_map image) a.1) (slice_get-map image atoms l ∙ ap (option_map image) b.1)) ∙ both)
 

@@ -37,8 +37,8 @@ abbrev pub contains_each : List ℕ → List ℕ → Bool
 contains_each vs ws = list_all (λ v. nat_le (times v ws) (times v vs)) ws
 
 -- no variable occurs more often in t than in s
-abbrev pub covers : Term → Term → Bool
-covers s t = contains_each (term_variables s) (term_variables t)
+abbrev pub meets_variable_condition : Term → Term → Bool
+meets_variable_condition s t = contains_each (term_variables s) (term_variables t)
 
 -- ---- the order
 
@@ -57,7 +57,7 @@ is_greater_at f ps (layer.App g ts) = is_greater_head f (length ps) g (length ts
 
 -- the variable condition, and the greater weight or the same weight and what else decides
 abbrev pub by_weight : Term → Term → Bool → Bool
-by_weight s t otherwise = covers s t && (nat_lt (term_symbols t) (term_symbols s) || ((term_symbols s == term_symbols t) && otherwise))
+by_weight s t otherwise = meets_variable_condition s t && (nat_lt (term_symbols t) (term_symbols s) || ((term_symbols s == term_symbols t) && otherwise))
 
 -- a variable is greater than nothing; each argument of an application comes with its own test
 abbrev pub greater_step : Term-F (Term × (Term → Bool)) → Term → Bool

@@ -1,9 +1,10 @@
 -- The most general unifier, by a list of equations: the rules of Martelli and Montanari 1982, taken in a fixed order from
 -- the first equation on, so that the outcome is one substitution (Robinson 1965).
-use Rattle.std.specs.Prelude.{◌≡◌, ℕ, zero, suc, ◌<◌, Bool, false, ◌&&◌, ◌==◌, if◌then◌else◌, List, [], ◌∷◌, ◌++◌, length, sum_by, All, Option, Some, None, option_map}
+use Rattle.std.specs.Prelude.{◌≡◌, ◌↔◌, MatchOption, ℕ, zero, suc, ◌<◌, Bool, false, ◌&&◌, ◌==◌, if◌then◌else◌, List, [], ◌∷◌, ◌++◌, length, sum_by, All, Option, Some, None, option_map}
 use Rattle.std.specs.List.{list_any, zip, flat_map}
 use Rattle.spl_terms.specs.declared.term.Term.{Term, Var, Term-F, out-Term}
 use Rattle.spl_terms.specs.declared.term.Term.TheOpen as layer
+use Rattle.spl_truth.specs.Truth.{entry}
 use Rattle.spl_terms.specs.Terms.{symbol_eq, term_eq, term_symbols, term_variables, replace}
 
 -- ---- variables and bindings
@@ -124,3 +125,17 @@ entries_below (suc n) s = entries_below n s ++ s n ∷ []
 -- U: the unifier of a and b, whose variables are below vars, as their entries
 abbrev pub unifier : ℕ → Term → Term → Option (List Term)
 unifier vars a b = option_map (entries_below vars) (solution vars Var ((a, b) ∷ []))
+
+-- ---- laws
+
+-- for all terms with variables below a number
+abbrev pub ForTermsBelow : (ℕ → Term → Term → Type 0) → Type 0
+ForTermsBelow P = (vars : ℕ) (a b : Term) → HasVariablesBelow vars a → HasVariablesBelow vars b → P vars a b
+
+-- from the one equation the rules lead to what is computed, and nowhere else
+abbrev pub LeadsToSolution : ℕ → Term → Term → Type 0
+LeadsToSolution vars a b = (r : Option (ℕ → Term)) → Leads Var ((a, b) ∷ []) r ↔ (solution vars Var ((a, b) ∷ []) ≡ r)
+
+-- what is computed is a most general unifier, or there is none
+abbrev pub IsUnifierOrNone : ℕ → Term → Term → Type 0
+IsUnifierOrNone vars a b = MatchOption (unifier vars a b) (HasNoUnifier a b) (λ entries. IsMostGeneral a b (entry entries))

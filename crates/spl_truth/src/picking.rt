@@ -1,3 +1,4 @@
+//! Which of two clauses is chosen first.
 ghost use Rattle.std.specs.Prelude.{◌≡◌};
 ghost use Rattle.std.specs.declared.option.Option.{Option};
 ghost use Rattle.spl_truth.specs.Picking.{is_fifth, preferred, better};

@@ -1,3 +1,4 @@
+//! Tests of clauses that need not be kept: tautologies, and clauses contained in others.
 ghost use Rattle.std.specs.Prelude.{◌≡◌, count_by, true};
 ghost use Rattle.std.specs.List.{list_any};
 ghost use Rattle.spl_terms.specs.Clauses.{is_same};
@@ -58,7 +59,7 @@ fn contains_parts(clause: &Clause, other: &Clause) -> bool
 /// Whether each part of the clause is contained in that part of the other one: each atom is there as often or more
 /// often, up to exchanged sides. Then the clause subsumes the other one as it stands (Weidenbach 2001, the section on
 /// reductions). It takes no memory.
-#[tactic(auto, using(crate::proofs::Subclauses::equal_subclause))]
+#[tactic(auto, using(crate::proofs::Subclauses::subclause_laws))]
 pub fn is_subclause(clause: &Clause, other: &Clause) -> bool
     ensures exact { result ≡ is_subclause clause.now other.now }
     ensures subsumes { result ≡ true → Subsumes clause.now other.now }

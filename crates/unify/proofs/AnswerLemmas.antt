@@ -1,14 +1,14 @@
 -- From where the list of equations leads to what the public calls answer.
 use Rattle.std.proofs.Common.{◌≡◌, ℕ, suc, ◌≤◌, nat_lt, Bool, true, false, ◌&&◌, List, [], ◌∷◌, ◌++◌, length, Option, Some, None, option_map, Result, Ok, Err, IfOk, IfSome, MatchOption, refl, sym, ap, subst, ◌∙◌, ◌↔◌, arith}
 use Rattle.std.specs.List.{zip}
-use Rattle.std.proofs.lemmas.Bool.{ltb-true}
+use Rattle.std.proofs.lemmas.Bool.{ltb-true, and_parts}
 use Rattle.spl_terms.specs.declared.term.Symbol.{Symbol}
 use Rattle.spl_terms.specs.declared.term.Term.{Term, Var, App}
 use Rattle.spl_terms.specs.Terms.{replace}
-use Rattle.spl_terms.specs.TermLaws.{and-parts, symbol_eq-refl, replace-App, replace-itself}
+use Rattle.spl_terms.specs.TermLaws.{symbol_eq-refl, replace-App, replace-itself}
 use Rattle.spl_truth.specs.Truth.{entry}
 use Rattle.spl_truth.specs.Unifiers.{solution, entries_below, unifier, HasVariablesBelow, HaveVariablesBelow, HasNoUnifier, IsMostGeneral, Leads}
-use Rattle.spl_truth.proofs.Entries.{entry-entries_below}
+use Rattle.spl_truth.specs.EntryLaws.{entry-entries_below}
 use Rattle.unify.specs.Below.{EquationsBelow}
 use Rattle.unify.specs.Fitting.{fits, all_fit}
 use Rattle.unify.specs.Bindings.{substitution, IsTriangular}
@@ -115,4 +115,4 @@ pub as_many_fit : (ss ts : List Term) → all_fit ss ts ≡ true → length ss �
 as_many_fit [] [] e = refl
 as_many_fit [] (t ∷ ts) e = absurd (cc)
 as_many_fit (s ∷ ss) [] e = absurd (cc)
-as_many_fit (s ∷ ss) (t ∷ ts) e = ap suc (as_many_fit ss ts (and-parts (fits s t) (all_fit ss ts) e).1)
+as_many_fit (s ∷ ss) (t ∷ ts) e = ap suc (as_many_fit ss ts (and_parts (fits s t) (all_fit ss ts) e).1)

@@ -1,17 +1,15 @@
 -- Variables below a number, by a test.
 use Rattle.std.proofs.Common.{◌≡◌, ℕ, ◌<◌, Bool, true, false, ◌&&◌, ◌||◌, ◌==◌, nat_lt, eq-eqb, All, List, [], ◌∷◌, ◌++◌, refl, sym, ap, subst, ◌∙◌, ◌↔◌}
 use Rattle.std.specs.List.{list_all, list_any, flat_map, zip, AllByRecursion}
-use Rattle.std.proofs.lemmas.Bool.{ltb-true, lt-ltb}
+use Rattle.std.proofs.lemmas.Bool.{ltb-true, lt-ltb, and_parts, or_left, or_right}
 use Rattle.std.proofs.lemmas.List.Elements.{All-nil, All-cons, recursion_from_All}
 use Rattle.std.proofs.lemmas.List.Folds.{list_all-append, list_any-append}
 use Rattle.spl_terms.specs.declared.term.Symbol.{Symbol}
 use Rattle.spl_terms.specs.declared.term.Term.{Term, Var, App}
 use Rattle.spl_terms.specs.Terms.{term_variables}
-use Rattle.spl_terms.specs.TermLaws.{and-parts, term_variables-Var, term_variables-App}
-use Rattle.spl_terms.specs.SameLaws.{or-left, or-right}
+use Rattle.spl_terms.specs.TermLaws.{term_variables-Var, term_variables-App}
 use Rattle.spl_truth.specs.Unifiers.{occurs, HasVariablesBelow, HaveVariablesBelow}
-use Rattle.spl_truth.proofs.Occurring.{occurs-App}
-use Rattle.spl_truth.proofs.Unifiers.{any_of_all, occurs_below}
+use Rattle.spl_truth.specs.OccurrenceLaws.{occurs-App, any_of_all, occurs_below}
 use Rattle.unify.specs.Below.{has_variables_below, AllBelow, IsBelow, AreBelow, EquationsBelow}
 
 and_true : (b : Bool) → (b && true) ≡ b
@@ -33,7 +31,7 @@ pub ruleset below_laws = (below-Var, below-App)
 all_from_test : (n : ℕ) (vs : List ℕ) → list_all (λ w. nat_lt w n) vs ≡ true → All (λ v. v < n) vs
 all_from_test n [] e = All-nil (λ v. v < n)
 all_from_test n (v ∷ vs) e =
-    let p = and-parts (nat_lt v n) (list_all (λ w. nat_lt w n) vs) e in
+    let p = and_parts (nat_lt v n) (list_all (λ w. nat_lt w n) vs) e in
     All-cons (λ v. v < n) v vs (ltb-true v n p.0) (all_from_test n vs p.1)
 
 test_from_all : (n : ℕ) (vs : List ℕ) → AllByRecursion (λ v. v < n) vs → list_all (λ w. nat_lt w n) vs ≡ true
@@ -50,7 +48,7 @@ tests_exact n ts = subst (λ b. (b ≡ true) ↔ All (λ v. v < n) (flat_map ter
 
 all_from_any : (n : ℕ) (vs : List ℕ) → AllBelow n (λ v. list_any (λ w. v == w) vs) → All (λ v. v < n) vs
 all_from_any n [] h = All-nil (λ v. v < n)
-all_from_any n (v ∷ vs) h = All-cons (λ v. v < n) v vs (h v (or-left (v == v) _ (eq-eqb v v refl))) (all_from_any n vs (λ w o. h w (or-right (w == v) _ o)))
+all_from_any n (v ∷ vs) h = All-cons (λ v. v < n) v vs (h v (or_left (v == v) _ (eq-eqb v v refl))) (all_from_any n vs (λ w o. h w (or_right (w == v) _ o)))
 
 pub below_from : (n : ℕ) (t : Term) → HasVariablesBelow n t → IsBelow n t
 below_from n t h = occurs_below n t h
@@ -80,7 +78,7 @@ pub zip_below : (n : ℕ) (ss ts : List Term) (es : List (Term × Term)) → Are
 zip_below n [] ts es h k m = m
 zip_below n (s ∷ ss) [] es h k m = m
 zip_below n (s ∷ ss) (t ∷ ts) es h k m = (
-  λ v o. h v (or-left _ _ o),
-  λ v o. k v (or-left _ _ o),
-  zip_below n ss ts es (λ v o. h v (or-right (occurs v s) _ o)) (λ v o. k v (or-right (occurs v t) _ o)) m,
+  λ v o. h v (or_left _ _ o),
+  λ v o. k v (or_left _ _ o),
+  zip_below n ss ts es (λ v o. h v (or_right (occurs v s) _ o)) (λ v o. k v (or_right (occurs v t) _ o)) m,
 )

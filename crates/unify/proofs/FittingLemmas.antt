@@ -10,7 +10,7 @@ use Rattle.spl_terms.specs.TermLaws.{symbol_eq-refl, Each, term_induction, fold-
 use Rattle.spl_truth.specs.Truth.{entry}
 use Rattle.spl_truth.specs.Matching.{HasNoMatcher}
 use Rattle.spl_truth.specs.Unifiers.{IsUnifier, HasNoUnifier, IsMostGeneral}
-use Rattle.spl_truth.proofs.Occurring.{same_arguments, same_symbols, no_application}
+use Rattle.spl_truth.specs.OccurrenceLaws.{same_arguments, same_symbols, no_application}
 use Rattle.unify.specs.Fitting.{may_be, fitting_step, fits, all_fit, may_become, covering_step, covers, all_cover}
 
 pub fits-Var : (v : ℕ) (t : Term) → fits (Var v) t ≡ true

@@ -6,17 +6,16 @@ use Rattle.std.proofs.lemmas.List.{map-append, take-map}
 use Rattle.std.proofs.lemmas.List.Folds.{list_any-append}
 use Rattle.std.proofs.lemmas.List.Sums.{sum_by-cons}
 use Rattle.std.specs.List.{list_any}
-use Rattle.std.proofs.lemmas.Bool.{eqb-true, false≢true}
+use Rattle.std.proofs.lemmas.Bool.{eqb-true, false≢true, or_left, or_right}
 use Rattle.spl_terms.specs.declared.term.Symbol.{Symbol}
 use Rattle.spl_terms.specs.declared.term.Term.{Term, Var, App}
 use Rattle.spl_terms.specs.Terms.{symbol_eq, term_eq, term_symbols, replace}
 use Rattle.spl_terms.specs.TermLaws.{symbol_eq-refl, symbol_eq-true, term_symbols-App, term_symbols-positive, term_eq-true, term_eq-refl, replace-Var, replace-App}
-use Rattle.spl_terms.specs.SameLaws.{or-left, or-right}
 use Rattle.spl_truth.specs.Truth.{entry}
 use Rattle.spl_truth.specs.Unifiers.{occurs, entries_below, HasVariablesBelow, HaveVariablesBelow}
 use Rattle.spl_truth.specs.Matching.{IsMatcher, HasNoMatcher}
-use Rattle.spl_truth.proofs.Occurring.{same_arguments, occurs-Var, occurs-App}
-use Rattle.spl_truth.proofs.Entries.{length-entries_below, entry-entries_below}
+use Rattle.spl_truth.specs.OccurrenceLaws.{same_arguments, occurs-Var, occurs-App}
+use Rattle.spl_truth.specs.EntryLaws.{length-entries_below, entry-entries_below}
 use Rattle.unify.specs.Below.{AllBelow}
 use Rattle.unify.specs.Bindings.{bound_to, filled}
 use Rattle.unify.specs.Matches.{Agrees, IsFound, FoundOrNot, IsExtended}
@@ -218,8 +217,8 @@ module _ (ps ts : List Term) (i : ℕ) (p t : Term) (lp : i < length ps) (lt : i
     where
       here : (xs : List Term) (n : ℕ) → n < length xs → p ≡ get_or xs n p → (v : ℕ) → occurs v p ≡ true → list_any (occurs v) xs ≡ true
       here [] n h e v o = absurd (omega arith)
-      here (x ∷ xs) zero h e v o = or-left _ _ (ap (occurs v) (sym e) ∙ o)
-      here (x ∷ xs) (suc n) h e v o = or-right (occurs v x) _ (here xs n (omega arith) e v o)
+      here (x ∷ xs) zero h e v o = or_left _ _ (ap (occurs v) (sym e) ∙ o)
+      here (x ∷ xs) (suc n) h e v o = or_right (occurs v x) _ (here xs n (omega arith) e v o)
 
 take_whole : (xs : List Term) (n : ℕ) → length xs ≤ n → take n xs ≡ xs
 take_whole [] zero h = refl

@@ -1,17 +1,17 @@
 -- Where the list of equations leads, by what the code does with its first equation.
 use Rattle.std.proofs.Common.{◌≡◌, ℕ, suc, ◌≤◌, ◌<◌, Bool, true, false, ◌&&◌, ◌==◌, if◌then◌else◌, eq-eqb, List, [], ◌∷◌, ◌++◌, length, map, Option, Some, None, refl, sym, ap, subst, ◌∙◌, arith}
 use Rattle.std.specs.List.{zip}
-use Rattle.std.proofs.lemmas.Bool.{eqb-true, false≢true}
+use Rattle.std.proofs.lemmas.Bool.{eqb-true, false≢true, and_parts}
 use Rattle.std.proofs.lemmas.List.Sums.{sum_by-cons}
 use Rattle.spl_terms.specs.declared.term.Symbol.{Symbol}
 use Rattle.spl_terms.specs.declared.term.Term.{Term, Var, App, out-Term}
 use Rattle.spl_terms.specs.declared.term.Term.TheViews.{outs-Var, outs-App}
 use Rattle.spl_terms.specs.Terms.{symbol_eq, term_eq, terms_eq, term_symbols, replace}
-use Rattle.spl_terms.specs.TermLaws.{and-parts, symbol_eq-true, term_symbols-positive, term_eq-true, term_eq-refl, term_eq-App-App, terms_eq-same}
+use Rattle.spl_terms.specs.TermLaws.{symbol_eq-true, term_symbols-positive, term_eq-true, term_eq-refl, term_eq-App-App, terms_eq-same}
 use Rattle.spl_truth.specs.Unifiers.{occurs, single, bind, Action, trivial, eliminate, decompose, clash, action_of_variable, action_apart, action, Leads, ends, skips, binds, splits, fails, left_symbols}
-use Rattle.spl_truth.proofs.Replacing.{replace-replace, symbols-replace-App}
-use Rattle.spl_truth.proofs.Occurring.{no_application, occurs-self}
-use Rattle.spl_truth.proofs.Unifying.{left-append, left-cons, unbound_below, bind_fewer}
+use Rattle.spl_truth.specs.InstanceLaws.{replace-replace, symbols-replace-App}
+use Rattle.spl_truth.specs.OccurrenceLaws.{no_application, occurs-self}
+use Rattle.spl_truth.specs.BindingLaws.{left-append, left-cons, unbound_below, bind_fewer}
 use Rattle.unify.specs.declared.unifying.Progress.{Progress}
 use Rattle.unify.specs.declared.unifying.Progress.TheVariants.{Reduced, Bound, Failed}
 use Rattle.unify.specs.Below.{IsBelow, EquationsBelow}
@@ -241,7 +241,7 @@ module _ (vars : ℕ) (made : List (ℕ × Term)) (tri : IsTriangular vars made)
 
   pub arguments_split : (f g : Symbol) (ss ts sl tl : List Term) (es' : List (Term × Term)) → left ≡ App f ss → right ≡ App g ts → sl ≡ ss → tl ≡ ts → (same : Bool) → same ≡ (symbol_eq f g && (length sl == length tl)) → same ≡ true → es' ≡ zip sl tl ++ es → Progressed vars Reduced made ((l, r) ∷ es) made es'
   arguments_split f g ss ts sl tl es' p q a b same is yes' made_es =
-      let t : (symbol_eq f g ≡ true) × ((length sl == length tl) ≡ true) = and-parts _ _ (sym is ∙ yes') in
+      let t : (symbol_eq f g ≡ true) × ((length sl == length tl) ≡ true) = and_parts _ _ (sym is ∙ yes') in
       let many : length ss ≡ length ts = ap length (sym a) ∙ eqb-true _ _ t.1 ∙ ap length b in
       let whole : es' ≡ zip ss ts ++ es = made_es ∙ (λ i. zip (a i) (b i) ++ es) in
       record {

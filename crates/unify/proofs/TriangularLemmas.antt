@@ -8,10 +8,9 @@ use Rattle.spl_terms.specs.declared.term.Term.TheViews.{outs-Var, outs-App}
 use Rattle.spl_terms.specs.Terms.{term_symbols, replace}
 use Rattle.spl_truth.specs.Unifiers.{occurs, single, bind}
 use Rattle.spl_terms.specs.TermLaws.{term_induction, term_symbols-Var, replace-Var, replace-App, replace-itself}
-use Rattle.spl_truth.proofs.Replacing.{replace-replace, symbols-replace-App}
-use Rattle.spl_truth.proofs.Occurring.{no_application, agree, occurs-Var, occurs-App, occurs-self}
-use Rattle.spl_truth.proofs.Solving.{cap, IsWithin, IsFine, CanBind, cap-inside, within-replace, instance_at, single-apart, bind_fine, bound_at}
-use Rattle.spl_truth.proofs.Unifying.{at_first}
+use Rattle.spl_truth.specs.InstanceLaws.{replace-replace, symbols-replace-App}
+use Rattle.spl_truth.specs.OccurrenceLaws.{no_application, agree, occurs-Var, occurs-App, occurs-self}
+use Rattle.spl_truth.specs.BindingLaws.{cap, IsWithin, IsFine, CanBind, cap-inside, within-replace, instance_at, single-apart, bind_fine, bound_at, at_first}
 use Rattle.unify.specs.Below.{IsBelow}
 use Rattle.unify.specs.Bindings.{bound_to, substitution, IsFree, IsTriangular, one_more, rank, rank_of, rank_of_layer}
 

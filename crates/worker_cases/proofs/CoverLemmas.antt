@@ -12,7 +12,7 @@ use Rattle.spl_terms.specs.declared.clause.Part.TheVariants.{Constraint, Anteced
 use Rattle.spl_terms.specs.declared.clause.Clause.{Clause}
 use Rattle.spl_terms.specs.Clauses.{part_of, clause_symbols, atom_symbols, in_order}
 use Rattle.spl_truth.specs.Truth.{apply}
-use Rattle.spl_truth.proofs.Subclauses.{subsumes_itself}
+use Rattle.spl_truth.specs.SubsumptionLaws.{subsumes_itself}
 use Rattle.proof_steps.specs.declared.step.Statement.{Statement}
 use Rattle.proof_steps.specs.declared.step.Line.{Line}
 use Rattle.proof_steps.specs.Steps.{numbered, resolution, resolved, of_two, from_two, when, both_same, may_resolve, resolvent, fits}

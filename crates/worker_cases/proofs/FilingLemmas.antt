@@ -8,7 +8,7 @@ use Rattle.std.proofs.lemmas.Option.{slice_get_within}
 use Rattle.indexmap.specs.IndexMap.{get}
 use Rattle.spl_terms.specs.declared.atom.Atom.{Atom}
 use Rattle.spl_terms.specs.declared.clause.Clause.{Clause}
-use Rattle.spl_truth.proofs.Subclauses.{equal_subclause}
+use Rattle.spl_truth.specs.SubsumptionLaws.{equal_subclause}
 use Rattle.proof_steps.specs.declared.step.Line.{Line}
 use Rattle.proof_steps.specs.Steps.{numbered}
 use Rattle.worker_cases.specs.Covering.{Listing, IsNew, IsSubsumed, AddsLine}

@@ -8,8 +8,8 @@ use Rattle.spl_terms.specs.declared.clause.Part.TheVariants.{Constraint, Anteced
 use Rattle.spl_terms.specs.declared.clause.Clause.{Clause}
 use Rattle.spl_terms.specs.Clauses.{is_same, part_of}
 use Rattle.spl_truth.specs.Truth.{apply}
-use Rattle.spl_truth.proofs.Same.{flipped, same_cases}
-use Rattle.spl_truth.proofs.Subclauses.{applied_none, same_turned}
+use Rattle.spl_terms.specs.SameLaws.{flipped, same_cases, same_turned}
+use Rattle.spl_truth.specs.InstanceLaws.{applied_none}
 use Rattle.proof_steps.specs.declared.step.Statement.{Statement}
 use Rattle.proof_steps.specs.declared.step.Line.{Line}
 use Rattle.proof_steps.specs.Steps.{numbered, both_same, may_resolve, is_negative}

@@ -1,5 +1,5 @@
 use Rattle.std.proofs.Common.{refl, ap}
-use Rattle.spl_terms.proofs.TermLemmas.{equal_apps}
+use Rattle.spl_terms.specs.TermLaws.{equal_apps}
 use Rattle.kbo.specs.Views.{term_of}
 use Rattle.kbo.proofs.comparing.same_view.Goals as goal
 

@@ -1,5 +1,5 @@
 use Rattle.std.proofs.Common.{◌∙◌, sym}
-use Rattle.spl_truth.proofs.Subclauses.{subclause_subsumes}
+use Rattle.spl_truth.specs.SubsumptionLaws.{subclause_subsumes}
 use Rattle.spl_truth.proofs.redundancy.is_subclause.Goals as goal
 
 pub returns-clause-subsumes : goal.returns-clause-subsumes

@@ -1,5 +1,5 @@
 use Rattle.std.proofs.Common.{◌<◌, subst, sym}
-use Rattle.spl_truth.proofs.Unifying.{unbound_below}
+use Rattle.spl_truth.specs.BindingLaws.{unbound_below}
 use Rattle.unify.specs.Bindings.{substitution}
 use Rattle.unify.specs.Solving.{Settled}
 use Rattle.unify.proofs.SolvingLemmas.{fewer_unbound}

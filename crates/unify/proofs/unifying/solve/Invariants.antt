@@ -1,5 +1,5 @@
 use Rattle.std.proofs.Common.{◌≡◌}
-use Rattle.spl_truth.proofs.Unifying.{unbound_below}
+use Rattle.spl_truth.specs.BindingLaws.{unbound_below}
 use Rattle.unify.specs.Below.{EquationsBelow}
 use Rattle.unify.specs.Bindings.{substitution, IsTriangular}
 use Rattle.unify.specs.Solving.{Onward}

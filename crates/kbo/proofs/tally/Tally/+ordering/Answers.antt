@@ -1,7 +1,7 @@
 use Rattle.std.proofs.Common.{◌-◌, nat_lt, length, take, drop, arith}
 use Rattle.std.specs.List.{flat_map}
 use Rattle.spl_terms.specs.Terms.{term_variables}
-use Rattle.kbo.proofs.WalkLemmas.{few_in_lists}
+use Rattle.spl_terms.specs.SizeLaws.{few_in_terms}
 use Rattle.kbo.proofs.CompareLemmas.{is_compared, is_equal_below, variable_compared, compared_with_variable, variables_compared, first_decides_lists}
 use Rattle.kbo.proofs.TallyLemmas.{put_before, deficit_test, surplus_test, told_known, known_before}
 use Rattle.kbo.proofs.OrderingLemmas.{opened, more_counted, tally_lists, tally_terms, room_in}
@@ -41,7 +41,7 @@ order_lists-returns-in_default g t c =
       tally =
           tally_lists g.row.N _ _ _ _ ss ts c.first-item.result c.other-item.result rest more e h
           (more_counted g.row.N _ _ _ _ _ _ _ _ c.order_terms.ensures.tally c.order_terms.new.self.size_is _ _ _ _
-          (few_in_lists rest) (few_in_lists more) (room_in c.other-item.result more ts h c.requires.others_size)
+          (few_in_terms rest) (few_in_terms more) (room_in c.other-item.result more ts h c.requires.others_size)
           _ _ _ _ c.count_all.new.self.size_is c.count_all.ensures.balances c.count_all.ensures.beyond c.count_all.ensures.left c.count_all.ensures.right
           _ _ _ _ c.count_all-in_default.ensures.balances c.count_all-in_default.ensures.beyond c.count_all-in_default.ensures.left c.count_all-in_default.ensures.right);
     }

@@ -1,4 +1,4 @@
-use Rattle.spl_terms.proofs.NumberLemmas.{few_in_term}
+use Rattle.spl_terms.specs.SizeLaws.{few_in_term}
 use Rattle.kbo.proofs.OrderingLemmas.{both_counted}
 use Rattle.kbo.proofs.tally.Tally.count_both.Goals as goal
 

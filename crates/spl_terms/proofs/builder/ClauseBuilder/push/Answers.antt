@@ -1,7 +1,7 @@
 use Rattle.std.proofs.Common.{◌≡◌, ◌≤◌, true, false, ◌∙◌, sym, ap, subst, arith}
 use Rattle.std.specs.List.{list_any}
 use Rattle.spl_terms.specs.Clauses.{clause_symbols, is_same, part_of}
-use Rattle.spl_terms.proofs.ClauseLemmas.{with_atom-repeated, with_atom-new}
+use Rattle.spl_terms.specs.SizeLaws.{with_atom-repeated, with_atom-new}
 use Rattle.spl_terms.proofs.builder.ClauseBuilder.push.Goals as goal
 
 pub returns-then-contains-clause-ok : goal.returns-then-contains-clause-ok

@@ -1,4 +1,5 @@
--- One instance of a clause for an instance of each of its parts.
+-- Laws with their proofs, not definitions that a reader must believe: one instance of a clause for an instance of each of
+-- its parts.
 use Rattle.std.proofs.Common.{eq-eqb, take, drop, length, ◌≡◌, ℕ, Bool, true, false, not, ◌||◌, ◌&&◌, ◌==◌, if◌then◌else◌, List, [], ◌∷◌, ◌++◌, map, refl, sym, ap, ◌∙◌, append_assoc}
 use Rattle.std.specs.List.{list_any, list_all, flat_map}
 use Rattle.std.proofs.lemmas.List.Folds.{list_any-append, list_all-append}
@@ -7,13 +8,14 @@ use Rattle.spl_terms.specs.declared.atom.Atom.{Atom}
 use Rattle.spl_terms.specs.declared.atom.Atom.TheVariants.{Holds, Equal}
 use Rattle.spl_terms.specs.Terms.{term_variables, replace}
 use Rattle.spl_terms.specs.Clauses.{atom_variables, replace_in_atom}
-use Rattle.spl_terms.proofs.TermLemmas.{Each, term_induction}
-use Rattle.spl_terms.proofs.NumberLemmas.{term_variables-Var, term_variables-App}
-use Rattle.spl_truth.proofs.Replacing.{and_parts, replace-Var, replace-App, at_each}
+use Rattle.spl_terms.specs.TermLaws.{Each, term_induction, term_variables-Var, term_variables-App, replace-Var, replace-App}
+use Rattle.std.proofs.lemmas.Bool.{and_parts, or_right, not-true}
+use Rattle.spl_truth.specs.InstanceLaws.{at_each}
 use Rattle.clause_parts.specs.Parts.{share, marked, component}
 use Rattle.clause_parts.specs.Marking.{marked_variables}
-use Rattle.clause_parts.proofs.Marks.{share-reached}
-use Rattle.clause_parts.proofs.Closure.{component_apart}
+use Rattle.spl_terms.specs.VariableLaws.{itself}
+use Rattle.clause_parts.specs.MarkLaws.{share-reached}
+use Rattle.clause_parts.specs.ClosureLaws.{component_apart}
 
 -- ---- replacements that agree on the variables that pass a test
 
@@ -72,17 +74,10 @@ marked_are (b ∷ bs) [] = refl
 marked_are (true ∷ bs) (a ∷ atoms) = ap (λ l. atom_variables a ++ l) (marked_are bs atoms)
 marked_are (false ∷ bs) (a ∷ atoms) = marked_are bs atoms
 
-self : (v : ℕ) → (v == v) ≡ true
-self v = eq-eqb v v refl
-
-pub or_true : (b c : Bool) → c ≡ true → (b || c) ≡ true
-or_true true c e = refl
-or_true false c e = e
-
 all_in : (before vs : List ℕ) → list_all (is_in (before ++ vs)) vs ≡ true
 all_in before [] = refl
 all_in before (v ∷ vs) =
-    let here : is_in (before ++ v ∷ vs) v ≡ true = list_any-append (λ w. v == w) before (v ∷ vs) ∙ or_true (is_in before v) (is_in (v ∷ vs) v) (ap (λ b. b || is_in vs v) (self v)) in
+    let here : is_in (before ++ v ∷ vs) v ≡ true = list_any-append (λ w. v == w) before (v ∷ vs) ∙ or_right (is_in before v) (is_in (v ∷ vs) v) (ap (λ b. b || is_in vs v) (itself v)) in
     let rest : list_all (is_in (before ++ v ∷ vs)) vs ≡ true = ap (λ l. list_all (is_in l) vs) (sym (append_assoc before (v ∷ []) vs)) ∙ all_in (before ++ v ∷ []) vs in
     λ i. here i && rest i
 
@@ -114,12 +109,8 @@ module _ (n : ℕ) (atoms : List Atom) (g k : ℕ → Term) where
   taken_in : (v : ℕ) → is_in variables_in v ≡ true → both variables_in g k v ≡ g v
   taken_in v e = ap (λ b. if b then g v else k v) e
 
-  not_true : (b : Bool) → not b ≡ true → b ≡ false
-  not_true true e = absurd (cc)
-  not_true false e = refl
-
   taken_out : (v : ℕ) → not (is_in variables_in v) ≡ true → both variables_in g k v ≡ k v
-  taken_out v e = ap (λ b. if b then g v else k v) (not_true (is_in variables_in v) e)
+  taken_out v e = ap (λ b. if b then g v else k v) (not-true (is_in variables_in v) e)
 
   -- the component becomes what g makes of it
   pub joint_left : at_each (both variables_in g k) (marked marks_of atoms) ≡ at_each g (marked marks_of atoms)

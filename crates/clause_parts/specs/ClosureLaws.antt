@@ -1,9 +1,11 @@
--- A component is closed: no atom outside shares a variable with one inside.
+-- Laws with their proofs, not definitions that a reader must believe: a component is closed, since no atom outside shares a
+-- variable with one inside.
 use Rattle.std.proofs.Common.{◌≡◌, ◌⊎◌, inl, inr, ℕ, zero, suc, ◌+◌, ◌<◌, ◌≤◌, Bool, true, false, not, ◌||◌, List, [], ◌∷◌, length, map, replicate, refl, sym, ap, ◌∙◌, arith, length-set}
 use Rattle.std.specs.List.{list_any}
 use Rattle.std.proofs.lemmas.List.{length-replicate}
 use Rattle.clause_parts.specs.Parts.{share, marked, spread_from, spread, spread_times, only, component}
-use Rattle.clause_parts.proofs.Marks.{stays, length-spread_from}
+use Rattle.spl_terms.specs.ListLaws.{same_first, same_rest}
+use Rattle.clause_parts.specs.MarkLaws.{stays, length-spread_from}
 
 -- how many marks are set
 abbrev pub set_count : List Bool → ℕ
@@ -76,11 +78,10 @@ apart_from : (others lists : List (List ℕ)) (bs : List Bool) → spread_from o
 apart_from others [] [] e = refl
 apart_from others [] (b ∷ bs) e = refl
 apart_from others (vs ∷ more) [] e = refl
-apart_from others (vs ∷ more) (true ∷ bs) e = let h : spread_from others more bs ≡ bs = cc in apart_from others more bs h
+apart_from others (vs ∷ more) (true ∷ bs) e = apart_from others more bs (same_rest _ _ _ _ e)
 apart_from others (vs ∷ more) (false ∷ bs) e =
-    let here : list_any (share vs) others ≡ false = cc in
-    let h : spread_from others more bs ≡ bs = cc in
-    let rest = apart_from others more bs h in
+    let here : list_any (share vs) others ≡ false = same_first _ _ _ _ e in
+    let rest = apart_from others more bs (same_rest _ _ _ _ e) in
     λ i. here i || rest i
 
 -- the rest of a component shares no variable with it

@@ -1,7 +1,9 @@
--- The equations of the order, and that it is asymmetric.
-use Rattle.std.proofs.Common.{◌≡◌, ◌⊎◌, inl, inr, ℕ, suc, ◌<◌, Bool, true, false, ◌&&◌, ◌||◌, ◌==◌, nat_lt, if◌then◌else◌, List, [], ◌∷◌, length, map, refl, sym, ap, ◌∙◌, arith}
+-- Laws with their proofs, not definitions that a reader must believe: the equations of the order on terms, and that of two
+-- terms at most one is greater.
+use Rattle.std.proofs.Common.{◌≡◌, ℕ, suc, ◌<◌, Bool, true, false, ◌&&◌, ◌||◌, ◌==◌, nat_lt, if◌then◌else◌, List, [], ◌∷◌, length, map, refl, sym, ap, ◌∙◌, arith}
 use Rattle.std.proofs.Common.{eq-eqb}
-use Rattle.std.proofs.lemmas.Bool.{eqb-true, ltb-true, ltb-false, lt-ltb, le-ltb, false≢true}
+use Rattle.std.proofs.Math.Bool.{and-true, and-false}
+use Rattle.std.proofs.lemmas.Bool.{ltb-true, ltb-false, lt-ltb, le-ltb, false≢true, and_parts, ne_eqb}
 use Rattle.spl_terms.specs.declared.term.Kind.{Kind}
 use Rattle.spl_terms.specs.declared.term.Kind.TheVariants.{Function, Predicate, Sort}
 use Rattle.spl_terms.specs.declared.term.Symbol.{Symbol}
@@ -9,8 +11,8 @@ use Rattle.spl_terms.specs.declared.term.Term.{Term, Var, App, out-Term, para-ro
 use Rattle.spl_terms.specs.declared.term.Term.TheOpen as layer
 use Rattle.spl_terms.specs.declared.term.Term.TheViews.{outs-Var, outs-App, rolls-Var, rolls-App}
 use Rattle.spl_terms.specs.Terms.{term_symbols, term_eq, symbol_eq, kind_eq}
-use Rattle.spl_terms.proofs.TermLemmas.{Each, term_induction, and-parts, term_eq-true, term_eq-refl}
-use Rattle.spl_truth.specs.Orders.{kind_rank, is_greater_head, covers, first_differing, is_greater_at, by_weight, greater_step, is_greater}
+use Rattle.spl_terms.specs.TermLaws.{Each, term_induction, term_eq-true, term_eq-refl}
+use Rattle.spl_truth.specs.Orders.{kind_rank, is_greater_head, meets_variable_condition, first_differing, is_greater_at, by_weight, greater_step, is_greater}
 
 -- ---- the equations
 
@@ -65,31 +67,16 @@ is_greater-App-App f ss g ts =
 
 -- ---- weights
 
-and_false : (b : Bool) → (b && false) ≡ false
-and_false true = refl
-and_false false = refl
-
-no_eqb : (x y : ℕ) → (x ≡ y → ⊥) → (x == y) ≡ false
-no_eqb x y ne = by_test (x == y) refl
-  where
-    by_test : (b : Bool) → (x == y) ≡ b → b ≡ false
-    by_test true e = absurd (ne (eqb-true x y e))
-    by_test false e = refl
-
-pub heavier : (s t : Term) (o : Bool) → term_symbols t < term_symbols s → by_weight s t o ≡ covers s t
-heavier s t o h = ap (λ b. covers s t && (b || ((term_symbols s == term_symbols t) && o))) (lt-ltb _ _ h) ∙ and_true (covers s t)
-  where
-    and_true : (b : Bool) → (b && true) ≡ b
-    and_true true = refl
-    and_true false = refl
+pub heavier : (s t : Term) (o : Bool) → term_symbols t < term_symbols s → by_weight s t o ≡ meets_variable_condition s t
+heavier s t o h = ap (λ b. meets_variable_condition s t && (b || ((term_symbols s == term_symbols t) && o))) (lt-ltb _ _ h) ∙ and-true (meets_variable_condition s t)
 
 pub lighter : (s t : Term) (o : Bool) → term_symbols s < term_symbols t → by_weight s t o ≡ false
 lighter s t o h =
     let ne : term_symbols s ≡ term_symbols t → ⊥ = λ e. omega arith in
-    (λ i. covers s t && (le-ltb (term_symbols t) (term_symbols s) (omega arith) i || (no_eqb _ _ ne i && o))) ∙ and_false (covers s t)
+    (λ i. meets_variable_condition s t && (le-ltb (term_symbols t) (term_symbols s) (omega arith) i || (ne_eqb _ _ ne i && o))) ∙ and-false (meets_variable_condition s t)
 
-pub balanced : (s t : Term) (o : Bool) → term_symbols s ≡ term_symbols t → by_weight s t o ≡ (covers s t && o)
-balanced s t o e = λ i. covers s t && (le-ltb (term_symbols t) (term_symbols s) (omega arith) i || (eq-eqb _ _ e i && o))
+pub balanced : (s t : Term) (o : Bool) → term_symbols s ≡ term_symbols t → by_weight s t o ≡ (meets_variable_condition s t && o)
+balanced s t o e = λ i. meets_variable_condition s t && (le-ltb (term_symbols t) (term_symbols s) (omega arith) i || (eq-eqb _ _ e i && o))
 
 -- ---- heads
 
@@ -121,22 +108,22 @@ by_number x y s g l cases = by_test (nat_lt x y) (nat_lt y x) refl refl
         let up : nat_lt y x ≡ false = le-ltb y x (omega arith) in
         let down : nat_lt x y ≡ false = le-ltb x y (omega arith) in
         elim cases [
-          | alike p q r ↦ alike (rw (same, p)) (rw (up, same, q)) (rw (down, turned, r))
-          | first p q r ↦ first (rw (same, p)) (rw (up, same, q)) (rw (down, turned, r))
-          | second p q r ↦ second (rw (same, p)) (rw (up, same, q)) (rw (down, turned, r))
+          | alike p q r ↦ alike (λ i. same i && p i) (λ i. up i || (same i && q i)) (λ i. down i || (turned i && r i))
+          | first p q r ↦ first (λ i. same i && p i) (λ i. up i || (same i && q i)) (λ i. down i || (turned i && r i))
+          | second p q r ↦ second (λ i. same i && p i) (λ i. up i || (same i && q i)) (λ i. down i || (turned i && r i))
         ]
 
     by_test : (a b : Bool) → nat_lt x y ≡ a → nat_lt y x ≡ b → HeadCases ((x == y) && s) (nat_lt y x || ((x == y) && g)) (nat_lt x y || ((y == x) && l))
     by_test true b p q =
         let lt : x < y = ltb-true x y p in
-        let ne : (x == y) ≡ false = no_eqb x y (λ e. omega arith) in
+        let ne : (x == y) ≡ false = ne_eqb x y (λ e. omega arith) in
         let up : nat_lt y x ≡ false = le-ltb y x (omega arith) in
-        second (rw ne) (rw (up, ne)) (rw p)
+        second (λ i. ne i && s) (λ i. up i || (ne i && g)) (λ i. p i || ((y == x) && l))
     by_test false true p q =
         let lt : y < x = ltb-true y x q in
-        let ne : (x == y) ≡ false = no_eqb x y (λ e. omega arith) in
-        let ne' : (y == x) ≡ false = no_eqb y x (λ e. omega arith) in
-        first (rw ne) (rw q) (rw (p, ne'))
+        let ne : (x == y) ≡ false = ne_eqb x y (λ e. omega arith) in
+        let ne' : (y == x) ≡ false = ne_eqb y x (λ e. omega arith) in
+        first (λ i. ne i && s) (λ i. q i || ((x == y) && g)) (λ i. p i || (ne' i && l))
     by_test false false p q = at_equal (omega (arith, ltb-false x y p, ltb-false y x q))
 
 pub head_cases : (f : Symbol) (m : ℕ) (g : Symbol) (n : ℕ) → HeadCases (same_head f m g n) (is_greater_head f m g n) (is_greater_head g n f m)
@@ -164,12 +151,8 @@ first_asymmetric (s ∷ ss) each (t ∷ ts) e = by_test (term_eq s t) (term_eq t
     by_test : (a b : Bool) → a ≡ b → (first_greater ss ts ≡ true → first_greater ts ss ≡ false) → (if a then first_greater ss ts else is_greater s t) ≡ true → (if b then first_greater ts ss else is_greater t s) ≡ false
     by_test true true p below q = below q
     by_test false false p below q = each.0 t q
-    by_test true false p below q = absurd (cc)
-    by_test false true p below q = absurd (cc)
-
-or_cases : (a b : Bool) → (a || b) ≡ true → (a ≡ true) ⊎ (b ≡ true)
-or_cases true b e = inl refl
-or_cases false b e = inr e
+    by_test true false p below q = absurd (false≢true (sym p))
+    by_test false true p below q = absurd (false≢true p)
 
 -- where what decides one way doesn't decide the other way
 not_both : (s t : Term) (o p : Bool) → (o ≡ true → p ≡ false) → by_weight s t o ≡ true → by_weight t s p ≡ false
@@ -180,8 +163,8 @@ not_both s t o p excludes e = by_test (nat_lt (term_symbols s) (term_symbols t))
     by_test false true x y = lighter t s p (ltb-true _ _ y)
     by_test false false x y =
         let same : term_symbols s ≡ term_symbols t = omega (arith, ltb-false _ _ x, ltb-false _ _ y) in
-        let r : (covers s t ≡ true) × (o ≡ true) = and-parts _ _ (sym (balanced s t o same) ∙ e) in
-        balanced t s p (sym same) ∙ ap (λ b. covers t s && b) (excludes r.1) ∙ and_false (covers t s)
+        let r : (meets_variable_condition s t ≡ true) × (o ≡ true) = and_parts _ _ (sym (balanced s t o same) ∙ e) in
+        balanced t s p (sym same) ∙ ap (λ b. meets_variable_condition t s && b) (excludes r.1) ∙ and-false (meets_variable_condition t s)
 
 -- heads and arguments exclude each other
 head_excludes : (f : Symbol) (ss : List Term) (g : Symbol) (ts : List Term) → (first_greater ss ts ≡ true → first_greater ts ss ≡ false) → (is_greater_head f (length ss) g (length ts) || by_arguments f ss g ts) ≡ true → (is_greater_head g (length ts) f (length ss) || by_arguments g ts f ss) ≡ false
@@ -190,7 +173,7 @@ head_excludes f ss g ts below e = by_cases _ _ _ _ (head_cases f (length ss) g (
     by_cases : (a a' b c : Bool) → HeadCases a b c → HeadCases a' c b → (x y : Bool) → (x ≡ true → y ≡ false) → (b || (a && x)) ≡ true → (c || (a' && y)) ≡ false
     by_cases a a' b c (alike p q r) other x y h k =
         let z : y ≡ false = h (sym (λ i. q i || (p i && x)) ∙ k) in
-        (λ i. r i || (a' && z i)) ∙ and_false a'
+        (λ i. r i || (a' && z i)) ∙ and-false a'
     by_cases a a' b c (first p q r) (alike p' q' r') x y h k = absurd (false≢true (sym r' ∙ q))
     by_cases a a' b c (first p q r) (first p' q' r') x y h k = absurd (false≢true (sym r ∙ q'))
     by_cases a a' b c (first p q r) (second p' q' r') x y h k = λ i. r i || (p' i && y)
