@@ -8,7 +8,7 @@ use Rattle.spl_terms.specs.Clauses.{is_empty, no_atoms, renumbered, clause_symbo
 use Rattle.dep_sets.specs.declared.deps.Assumption.{Assumption}
 use Rattle.dep_sets.specs.Assumptions.{contains_assumption}
 use Rattle.proof_steps.specs.declared.step.Line.{Line}
-use Rattle.proof_steps.specs.Steps.{numbered, side_of, when, closes, of_three, case_both, conclude}
+use Rattle.proof_steps.specs.Steps.{numbered, side_of, when, closes, of_three, both_closed, conclude}
 use Rattle.proof_steps.specs.Checked.{stated}
 use Rattle.case_journal.specs.declared.event.Entry.{Entry}
 use Rattle.case_journal.specs.declared.event.Event.TheVariants.{Publish}
@@ -47,9 +47,9 @@ case_concluded s past legal inner clause left right i j c r e f is_r is_e is_f =
     let d = stated_found (ledger s past) j f is_f in
     let one = side_closes s past legal inner clause 1 left i e c.left_child c.live c.first_left.empty is_e in
     let two = side_closes s past legal inner clause 2 right j f c.right_child c.live c.first_right.empty is_f in
-    ap (λ x. of_three (case_both clause) x (numbered xs i) (numbered xs j)) a
-    ∙ (ap (λ x. of_three (case_both clause) (Some r.stated) x (numbered xs j)) b
-    ∙ (ap (λ x. of_three (case_both clause) (Some r.stated) (Some e.stated) x) d
+    ap (λ x. of_three (both_closed clause) x (numbered xs i) (numbered xs j)) a
+    ∙ (ap (λ x. of_three (both_closed clause) (Some r.stated) x (numbered xs j)) b
+    ∙ (ap (λ x. of_three (both_closed clause) (Some r.stated) (Some e.stated) x) d
     ∙ ap (λ x. when x (case_line clause r.stated.deps i e.stated.deps j f.stated.deps).stated) (and_from (closes (side_of clause 1) e.stated) (closes (side_of clause 2) f.stated) one two)))
 
 mapped_none : (f : Atom → Atom) (atoms : List Atom) → no_atoms (map f atoms) ≡ true → no_atoms atoms ≡ true

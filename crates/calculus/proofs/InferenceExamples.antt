@@ -7,7 +7,8 @@ use Rattle.spl_terms.specs.declared.clause.Part.TheVariants.{Constraint, Anteced
 use Rattle.spl_terms.specs.declared.clause.Clause.{Clause}
 use Rattle.proof_steps.specs.declared.step.Rule.TheVariants.{Resolve, Factor, Paramodulate, Reflex, EqFactor}
 use Rattle.proof_steps.specs.declared.step.Line.{Line}
-use Rattle.calculus.specs.Inferences.{Kept, eligible_in, resolve, paths_of, pair_inferences, inferences}
+use Rattle.calculus.specs.declared.kept.Kept.{Kept}
+use Rattle.calculus.specs.Inferences.{eligible_in, resolve, paths_of, pair_inferences, inferences}
 use Rattle.calculus.proofs.Words.{computes, function, predicate, sort_atom, x, y, clause, premise, selecting, by, line}
 
 -- ---- words

@@ -31,8 +31,10 @@ use Rattle.proof_steps.specs.declared.step.Rule.TheVariants.{Resolve}
 use Rattle.proof_steps.specs.Steps.{fits, is_negative, both_same, may_resolve, resolvent, resolved, resolution, states}
 use Rattle.dep_sets.specs.Assumptions.{united}
 use Rattle.spl_terms.specs.InOrder.{IsInOrder, variables}
-use Rattle.calculus.specs.Inferences.{Kept, clause_of, raised, variables_of_both, first_part, second_part, by_unifier_of_both, atom_unifier, resolve}
-use Rattle.spl_terms.specs.InOrderLaws.{has, itself, in_clause, variables-below, renamed_variables_atom}
+use Rattle.calculus.specs.declared.kept.Kept.{Kept}
+use Rattle.calculus.specs.Inferences.{clause_of, raised, variables_of_both, first_part, second_part, by_unifier_of_both, atom_unifier, resolve}
+use Rattle.spl_terms.specs.VariableLaws.{has, itself, renamed_variables_atom}
+use Rattle.spl_terms.specs.InOrderLaws.{in_clause, variables-below}
 
 -- ---- entries of the two parts of a list
 

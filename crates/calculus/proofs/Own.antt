@@ -1,26 +1,25 @@
 -- Where a clause's own equations have a unifier, there is an inference; and with both sides of a split closed nothing is left.
-use Rattle.std.proofs.Common.{◌≡◌, ℕ, zero, suc, ◌+◌, ◌<◌, ◌≤◌, Bool, true, false, not, ◌&&◌, ◌==◌, if◌then◌else◌, List, [], ◌∷◌, ◌++◌, length, map, take, drop, Option, Some, None, MatchOption, option_map, option_and_then, refl, sym, ap, ◌∙◌, subst, arith, eq-eqb, nat_lt, append-nil, length-append}
+use Rattle.std.proofs.Common.{◌≡◌, ℕ, ◌<◌, true, ◌==◌, if◌then◌else◌, [], ◌∷◌, ◌++◌, Some, None, MatchOption, option_map, option_and_then, sym, ap, ◌∙◌, subst, eq-eqb}
 use Rattle.std.specs.Prelude.{option_to_list, slice_get}
 use Rattle.std.proofs.lemmas.List.Folds.{list_any-append}
 use Rattle.std.proofs.lemmas.Option.{slice_get-map}
 use Rattle.std.proofs.lemmas.List.Elements.{All-from_recursion}
 use Rattle.spl_terms.specs.declared.term.Term.{Term}
-use Rattle.spl_terms.specs.declared.atom.Atom.{Atom}
 use Rattle.spl_terms.specs.declared.atom.Atom.TheVariants.{Equal}
 use Rattle.spl_terms.specs.declared.clause.Part.TheVariants.{Antecedent, Succedent}
 use Rattle.spl_terms.specs.declared.clause.Clause.{Clause}
 use Rattle.spl_terms.specs.Terms.{replace, term_variables, term_eq}
-use Rattle.spl_terms.specs.Clauses.{replace_in_atom, in_order, atoms_of}
+use Rattle.spl_terms.specs.Clauses.{replace_in_atom, in_order}
 use Rattle.spl_terms.specs.TermLaws.{term_eq-refl}
 use Rattle.spl_truth.specs.Truth.{entry, apply}
 use Rattle.spl_truth.specs.Redundancy.{has_equal_sides}
 use Rattle.spl_truth.specs.Unifiers.{HasVariablesBelow, HasNoUnifier, IsMostGeneral, ForTermsBelow, IsUnifierOrNone}
 use Rattle.std.proofs.lemmas.Bool.{or_left, or_right}
 use Rattle.proof_steps.specs.declared.step.Rule.TheVariants.{Reflex, EqFactor}
-use Rattle.proof_steps.specs.Steps.{when, states, side_of, closes, fits, without, reflexed, reflection, sides_of, equality_factored, factored_sides}
+use Rattle.proof_steps.specs.Steps.{when, states, fits, without, reflexed, reflection, sides_of, equality_factored, factored_sides}
 use Rattle.spl_terms.specs.InOrder.{variables}
 use Rattle.calculus.specs.Inferences.{clause_of, substitution, by_unifier}
-use Rattle.spl_terms.specs.InOrderLaws.{has}
+use Rattle.spl_terms.specs.VariableLaws.{has}
 use Rattle.calculus.proofs.Lifting.{atom_below, all_below, length-unifier}
 use Rattle.std.proofs.lemmas.Bool.{ne_eqb}
 use Rattle.calculus.proofs.Superposing.{sides-replace, sides-inner}

@@ -19,10 +19,13 @@ use Rattle.proof_steps.specs.Steps.{states, numbered}
 use Rattle.spl_truth.specs.Redundancy.{Maps, MapsApart, EachPart, Subsumes}
 use Rattle.calculus.specs.Reductions.{unchanged, IsCondensation, ReducesBy, AreReductions, before_arrow}
 use Rattle.calculus.specs.Coverage.{Covered, reduced}
-use Rattle.calculus.specs.Notes.{Edit, HideNote, Rewritten, edited, IsJustified}
+use Rattle.calculus.specs.declared.note.Edit.{Edit}
+use Rattle.calculus.specs.declared.note.HideNote.{HideNote}
+use Rattle.calculus.specs.declared.note.Why.TheVariants.{Rewritten}
+use Rattle.calculus.specs.Notes.{edited, IsJustified}
 use Rattle.calculus.proofs.Words.{computes, function, predicate, x, y, clause, by, line}
-use Rattle.calculus.proofs.Laws.{among-covered}
-use Rattle.calculus.proofs.ReductionLaws.{IsStatedAs, chain-covered}
+use Rattle.calculus.specs.CoverageLaws.{among-covered}
+use Rattle.calculus.specs.ReductionLaws.{IsStatedAs, chain-covered}
 
 -- nothing is mapped into anything
 nothing_maps : (h : ℕ → Term) (into : List Atom) → MapsApart h [] into

@@ -27,11 +27,12 @@ use Rattle.proof_steps.specs.Spots.{arguments_step, arguments_of, subterm, term_
 use Rattle.proof_steps.specs.Spots.{atom_at, with_term_at}
 use Rattle.proof_steps.specs.Steps.{when, states, fits, without, joined, sides_of, rewritten, paramodulated, paramodulation}
 use Rattle.spl_terms.specs.InOrder.{IsInOrder, variables}
-use Rattle.calculus.specs.Inferences.{Kept, Reading, clause_of, raised, variables_of_both, first_part, second_part, by_unifier_of_both, rewriting_unifier, superpose}
+use Rattle.calculus.specs.declared.kept.Kept.{Kept}
+use Rattle.calculus.specs.Inferences.{Reading, clause_of, raised, variables_of_both, first_part, second_part, by_unifier_of_both, rewriting_unifier, superpose}
 use Rattle.dep_sets.specs.Assumptions.{united}
 use Rattle.proof_steps.specs.declared.step.Line.{Line}
 use Rattle.proof_steps.specs.declared.step.Rule.TheVariants.{Paramodulate}
-use Rattle.spl_terms.specs.InOrderLaws.{has}
+use Rattle.spl_terms.specs.VariableLaws.{has}
 use Rattle.calculus.proofs.Lifting.{entry-take, agree_term, atom_below, raised_below, all_below, length-unifier, first_fits, second_fits, second_agrees}
 
 -- ---- subterms of instances

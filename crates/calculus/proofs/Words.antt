@@ -17,7 +17,8 @@ use Rattle.spl_truth.specs.OccurrenceLaws.{occurs-Var, occurs-App}
 use Rattle.proof_steps.specs.declared.step.Rule.{Rule}
 use Rattle.proof_steps.specs.declared.step.Line.{Line}
 use Rattle.proof_steps.specs.Steps.{states}
-use Rattle.calculus.specs.Inferences.{Kept, paths_step, paths_in, placed}
+use Rattle.calculus.specs.declared.kept.Kept.{Kept}
+use Rattle.calculus.specs.Inferences.{paths_step, paths_in, placed}
 
 pub paths_in-Var : (v : ℕ) → paths_in (Var v) ≡ []
 paths_in-Var v = fold-Var paths_step v

@@ -1,37 +1,21 @@
 -- Laws with their proofs, not definitions that a reader must believe: what some clauses cover, more clauses cover; each of them, and each
 -- of its variants, is covered.
-use Rattle.std.proofs.Common.{◌≡◌, inl, inr, ℕ, zero, suc, Bool, true, false, not, ◌&&◌, ◌==◌, List, [], ◌∷◌, ◌++◌, map, Option, Some, None, option_map, option_and_then, refl, sym, ap, ◌∙◌, subst, append-nil}
-use Rattle.std.specs.Prelude.{option_to_list, filter, length, Contains, if◌then◌else◌, slice_get, slice_index, IsSomeAnd}
-use Rattle.std.proofs.lemmas.Bool.{eqb-true}
-use Rattle.std.proofs.lemmas.List.Elements.{Contains-append_left, Contains-append_right, Contains-append_cases}
-use Rattle.std.specs.List.{AllByRecursion, flat_map, enumerate_from}
+use Rattle.std.proofs.Common.{◌≡◌, inl, inr, ℕ, zero, suc, true, List, [], ◌∷◌, map, Some, sym, ap, ◌∙◌, subst}
+use Rattle.std.specs.Prelude.{slice_get, slice_index, IsSomeAnd}
 use Rattle.spl_terms.specs.declared.term.Term.{Term, Var}
-use Rattle.spl_terms.specs.declared.clause.Spot.{Spot}
 use Rattle.spl_terms.specs.declared.atom.Atom.{Atom}
 use Rattle.spl_terms.specs.declared.clause.Part.{Part}
 use Rattle.spl_terms.specs.declared.clause.Part.TheVariants.{Constraint, Antecedent, Succedent}
 use Rattle.spl_terms.specs.declared.clause.Clause.{Clause}
-use Rattle.spl_truth.specs.Places.{first_unsolved, eligible_by}
 use Rattle.spl_terms.specs.SameLaws.{same_self}
 use Rattle.spl_truth.specs.SubsumptionLaws.{subsumes_itself}
-use Rattle.spl_terms.specs.Clauses.{is_same, part_of, replace_in_atom, replace_in, clause_variables, firsts, number_in, in_order}
+use Rattle.spl_terms.specs.Clauses.{is_same, part_of, replace_in_atom, replace_in, clause_variables, firsts, number_in}
 use Rattle.spl_terms.specs.Terms.{replace}
 use Rattle.spl_truth.specs.InstanceLaws.{clause-replace-replace}
-use Rattle.spl_truth.specs.Truth.{is_ground}
-use Rattle.dep_sets.specs.Assumptions.{united, without_assumption}
-use Rattle.clause_parts.specs.Parts.{Parted, left_marks, part_by, parted_by, parts_of}
-use Rattle.proof_steps.specs.Checked as before
-use Rattle.proof_steps.specs.declared.step.Statement.{Statement}
-use Rattle.proof_steps.specs.declared.step.Rule.{Rule}
-use Rattle.proof_steps.specs.declared.step.Rule.TheVariants.{Resolve, Factor, Paramodulate, Reflex, EqFactor}
-use Rattle.proof_steps.specs.declared.step.Line.{Line}
-use Rattle.proof_steps.specs.Steps.{of_one, of_two, from_one, from_two, numbered, resolution, factored, paramodulation, reflection, equality_factoring, conclude, when, states, side_of, closes, case_left, case_right}
 use Rattle.spl_truth.specs.Redundancy.{Subsumes, MapsApart}
 use Rattle.spl_terms.specs.InOrderLaws.{renumbered-undone}
-use Rattle.calculus.specs.Coverage.{IsVariant, Covered, tautologous, subsumed, reduced}
-use Rattle.calculus.specs.Inferences.{Kept, clause_of, eligible_in, raised, variables_of_both, substitution, first_part, second_part, by_unifier, by_unifier_of_both, atom_unifier, resolve, resolutions, readings, equations_of, spots_of, superpose, superpositions, from_to, pair_inferences, sort_steps, others, factorings, reflections, factor_equation, equality_factorings, own_inferences, inferences, IsInference}
-use Rattle.clause_parts.specs.Sides.{SplitPart, split_part, split_parts, negations, side_clauses}
-use Rattle.proof_steps.specs.Steps.{either, are_sides, without_parts, by_cases}
+use Rattle.proof_steps.specs.Covering.{IsVariant}
+use Rattle.calculus.specs.Coverage.{Covered, tautologous, subsumed, reduced}
 
 -- ---- coverage
 

@@ -12,7 +12,7 @@ use Rattle.proof_steps.specs.declared.step.Statement.{Statement}
 use Rattle.proof_steps.specs.declared.step.Step.{Step}
 use Rattle.proof_steps.specs.declared.step.Line.{Line}
 use Rattle.proof_steps.specs.Parts.{Parted}
-use Rattle.proof_steps.specs.Steps.{numbered, side_of, states, when, of_one, of_two, of_three, from_two, resolution, closes, case_both, assumption_of, conclude, ground_resolve}
+use Rattle.proof_steps.specs.Steps.{numbered, side_of, states, when, of_one, of_two, of_three, from_two, resolution, closes, both_closed, assumption_of, conclude, ground_resolve}
 use Rattle.proof_steps.specs.Checked.{stated, IsConclusion}
 use Rattle.case_journal.specs.declared.branch.Branch.{Branch}
 use Rattle.case_journal.specs.declared.event.Entry.{Entry}
@@ -161,7 +161,7 @@ when_is : (b : Bool) (x st : Statement) → when b x ≡ Some st → x ≡ st
 when_is true x st h = cc
 when_is false x st h = cc
 
-three_deps : (xs : List Statement) (m n o : ℕ) (st : Statement) (a b c : Option Statement) → numbered xs m ≡ a → numbered xs n ≡ b → numbered xs o ≡ c → of_three (case_both m) a b c ≡ Some st → HasThree xs m n o st
+three_deps : (xs : List Statement) (m n o : ℕ) (st : Statement) (a b c : Option Statement) → numbered xs m ≡ a → numbered xs n ≡ b → numbered xs o ≡ c → of_three (both_closed m) a b c ≡ Some st → HasThree xs m n o st
 three_deps xs m n o st (Some r) (Some e) (Some f) i j k h = record { r = r; e = e; f = f; first = i; second = j; third = k; deps = ap (λ x. x.deps) (sym (when_is (closes (side_of m 1) e && closes (side_of m 2) f) _ st h)) }
 three_deps xs m n o st (Some r) (Some e) None i j k h = cc
 three_deps xs m n o st (Some r) None c i j k h = cc

@@ -22,7 +22,8 @@ use Rattle.dep_sets.specs.Assumptions.{united}
 use Rattle.clause_parts.specs.Parts.{Parted, marked, part_by, constraint_marks, antecedent_marks, succedent_marks, left_marks, parted_by, parts_of, as_true, as_false, negated_atom}
 use Rattle.proof_steps.specs.declared.step.Statement.{Statement}
 use Rattle.proof_steps.specs.declared.step.Line.{Line}
-use Rattle.proof_steps.specs.Steps.{numbered, when, fits, without, joined, resolvent, may_resolve, resolved, resolution, of_one, of_two, of_three, from_two, states, side_of, assumed, assumption_of, case_both, conclude}
+use Rattle.proof_steps.specs.Steps.{numbered, when, fits, without, joined, resolvent, may_resolve, resolved, resolution, of_one, of_two, of_three, from_two, states, side_of, assumption_of, both_closed, conclude}
+use Rattle.proof_steps.specs.SplitLaws.{assumed_of_two, assumption_of-two}
 use Rattle.proof_steps.specs.Checked.{stated}
 use Rattle.case_journal.specs.declared.event.Entry.{Entry}
 use Rattle.case_journal.specs.declared.event.Event.{Event}
@@ -238,13 +239,13 @@ part_passes test true two parts c a b h = let same : parts.left ≡ c = cc in ap
 part_passes test false true parts c a b h = let same : parts.right ≡ c = cc in ap (clause_passes test) (sym same) ∙ b
 part_passes test false false parts c a b h = cc
 
-assumed_passes : (test : SymbolTest) (side : ℕ) (negated : Option ℕ) (parts : Parted) (c : Clause) → clause_passes test parts.left ≡ true → clause_passes test parts.right ≡ true → assumed side negated parts ≡ Some c → clause_passes test c ≡ true
+assumed_passes : (test : SymbolTest) (side : ℕ) (negated : Option ℕ) (parts : Parted) (c : Clause) → clause_passes test parts.left ≡ true → clause_passes test parts.right ≡ true → assumed_of_two side negated parts ≡ Some c → clause_passes test c ≡ true
 assumed_passes test side None parts c a b h = part_passes test _ _ parts c a b h
 assumed_passes test side (Some k) parts c a b h =
     let got = if_some _ (negated_atom k parts.left) c h in
     flipped_passes test _ (slice_get (atoms_of parts.left) k) c (λ x e. all_at (atom_passes test) (atoms_of parts.left) k x a e) got
 
-parted_passes : (test : SymbolTest) (side : ℕ) (negated : Option ℕ) (r c : Clause) (o : Option (List Bool)) → Passes test r → option_and_then (assumed side negated) (option_map (parted_by r) o) ≡ Some c → clause_passes test c ≡ true
+parted_passes : (test : SymbolTest) (side : ℕ) (negated : Option ℕ) (r c : Clause) (o : Option (List Bool)) → Passes test r → option_and_then (assumed_of_two side negated) (option_map (parted_by r) o) ≡ Some c → clause_passes test c ≡ true
 parted_passes test side negated r c None p h = cc
 parted_passes test side negated r c (Some marks) p h =
     assumed_passes test side negated (parted_by r marks) c (ordered test (part_by r marks) (of_marks test r marks p)) (ordered test (part_by r (map not marks)) (of_marks test r (map not marks) p)) h
@@ -252,10 +253,10 @@ parted_passes test side negated r c (Some marks) p h =
 assume_passes : (test : SymbolTest) (split side : ℕ) (negated : Option ℕ) (o : Option Statement) (st : Statement) → ((a : Statement) → o ≡ Some a → clause_passes test a.clause ≡ true) → of_one (assumption_of split side negated) o ≡ Some st → clause_passes test st.clause ≡ true
 assume_passes test split side negated None st each h = cc
 assume_passes test split side negated (Some r) st each h =
-    of_statement test (side_of split side ∷ []) (option_and_then (assumed side negated) (parts_of r.clause)) st
-    (λ c e. parted_passes test side negated r.clause c (left_marks r.clause) (by_lists test r.clause (each r refl)) e) h
+    of_statement test (side_of split side ∷ []) (option_and_then (assumed_of_two side negated) (parts_of r.clause)) st
+    (λ c e. parted_passes test side negated r.clause c (left_marks r.clause) (by_lists test r.clause (each r refl)) e) (sym (assumption_of-two split side negated r) ∙ h)
 
-both_passes : (test : SymbolTest) (split : ℕ) (o r t : Option Statement) (st : Statement) → of_three (case_both split) o r t ≡ Some st → clause_passes test st.clause ≡ true
+both_passes : (test : SymbolTest) (split : ℕ) (o r t : Option Statement) (st : Statement) → of_three (both_closed split) o r t ≡ Some st → clause_passes test st.clause ≡ true
 both_passes test split None r t st h = cc
 both_passes test split (Some a) None t st h = cc
 both_passes test split (Some a) (Some b) None st h = cc

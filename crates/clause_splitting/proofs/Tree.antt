@@ -6,7 +6,8 @@ use Rattle.spl_terms.specs.declared.clause.Clause.{Clause}
 use Rattle.spl_terms.specs.Clauses.{is_empty}
 use Rattle.proof_steps.specs.declared.step.Statement.{Statement}
 use Rattle.proof_steps.specs.declared.step.Line.{Line}
-use Rattle.proof_steps.specs.Steps.{conclude, assumed, states, side_of}
+use Rattle.proof_steps.specs.Steps.{conclude, states, side_of}
+use Rattle.proof_steps.specs.SplitLaws.{assumed_of_two, assumption_of-two}
 use Rattle.proof_steps.specs.Checked.{stated}
 use Rattle.case_journal.specs.declared.event.Entry.{Entry}
 use Rattle.case_journal.specs.declared.event.Event.TheVariants.{Split}
@@ -38,7 +39,7 @@ first_full : (s : Setting) (past : List Entry) (w node : ℕ) (lines : List Line
 first_full s past w node lines put_off p l e =
     let same : Some (assume p.clause 1 None) ≡ Some l.step = ap (λ xs. slice_get xs 0) (sym p.steps) ∙ step_at lines 0 l e in
     let step : assume p.clause 1 None ≡ l.step = cc in
-    let ends = ap (option_map (λ (c : Clause). states c (side_of p.clause 1 ∷ []))) (ap (option_and_then (assumed 1 None)) p.parted) in
+    let ends = assumption_of-two p.clause 1 None p.split.stated ∙ ap (option_map (λ (c : Clause). states c (side_of p.clause 1 ∷ []))) (ap (option_and_then (assumed_of_two 1 None)) p.parted) in
     let made : Some (states p.parts.left (side_of p.clause 1 ∷ [])) ≡ Some l.stated =
     sym ends ∙ (sym (assume_concludes (ledger s past) p.clause 1 None p.split p.found) ∙ (ap (conclude s.input (stated (ledger s past))) step ∙ (p.concluded 0 l e).0)) in
     let is : states p.parts.left (side_of p.clause 1 ∷ []) ≡ l.stated = cc in

@@ -11,7 +11,9 @@ use Rattle.proof_steps.specs.declared.step.Statement.{Statement}
 use Rattle.proof_steps.specs.declared.step.Rule.{Rule}
 use Rattle.proof_steps.specs.declared.step.Rule.TheVariants.{Input, Resolve, Factor, Paramodulate, Reflex, EqFactor, Assume, CaseLeft, CaseRight, CaseBoth}
 use Rattle.proof_steps.specs.Parts.{Parted, parts_of}
-use Rattle.proof_steps.specs.Steps.{numbered, states, of_one, of_two, of_three, from_one, from_two, side_of, assumed, closes, assumption_of, case_both, concluded, resolution, factored, paramodulation, reflection, equality_factoring}
+use Rattle.proof_steps.specs.Steps.{numbered, states, of_one, of_two, of_three, from_one, from_two, side_of, closes, assumption_of, side_closed, both_closed, concluded, resolution, factored, paramodulation, reflection, equality_factoring}
+use Rattle.clause_parts.specs.Sides.{split_parts, assumed}
+use Rattle.proof_steps.specs.SplitLaws.{left_closed, right_closed}
 use Rattle.proof_extract.specs.Extracting.{is_in, renumbered_deps, renumbered_statement}
 use Rattle.proof_extract.proofs.Renumbered.{KeepsOrder, AreOver, over_united, over_without, renumbered_united, renumbered_without, renumbered_contains}
 
@@ -124,7 +126,7 @@ module _ (P : ℕ → Type 0) (f : ℕ → ℕ) (keeps : KeepsOrder P f) (earlie
   -- ---- splits
 
   made_assumption : (side : ℕ) (negated : Option ℕ) (m : ℕ) (x c : Statement) → numbered earlier m ≡ Some x → assumption_of m side negated x ≡ Some c → Outcome (m ∷ []) (of_one (assumption_of (f m) side negated) (numbered others (f m))) c
-  made_assumption side negated m x c a e = mapped (λ d. states d (side_of m side ∷ [])) (option_and_then (assumed side negated) (parts_of x.clause)) c (Outcome (m ∷ []) (of_one (assumption_of (f m) side negated) (numbered others (f m))) c) (λ d h k. record {
+  made_assumption side negated m x c a e = mapped (λ d. states d (side_of m side ∷ [])) (option_and_then (assumed side negated) (split_parts x.clause)) c (Outcome (m ∷ []) (of_one (assumption_of (f m) side negated) (numbered others (f m))) c) (λ d h k. record {
     there = each There m [] (x, a) (none There);
     over = λ fit. subst (λ z. AreOver P z.deps) k ((fit m x (is_first m []) a).0, tt);
     moved = λ fit moved. ap (of_one (assumption_of (f m) side negated)) (moved m x (is_first m []) a) ∙ ap (option_map (λ d. states d (side_of (f m) side ∷ []))) h ∙ ap (λ z. Some (renumbered_statement f z)) k;
@@ -169,6 +171,12 @@ module _ (P : ℕ → Type 0) (f : ℕ → ℕ) (keeps : KeepsOrder P f) (earlie
   from_case : (side : ℕ) (part : Parted → Clause) (m n : ℕ) (c : Statement) → of_two (by_side side part m) (numbered earlier m) (numbered earlier n) ≡ Some c → Outcome (m ∷ n ∷ []) (of_two (by_side side part (f m)) (numbered others (f m)) (numbered others (f n))) c
   from_case side part m n c e = two_of (by_side side part m) (numbered earlier m) (numbered earlier n) c (Outcome (m ∷ n ∷ []) (of_two (by_side side part (f m)) (numbered others (f m)) (numbered others (f n))) c) (λ x y a b k. made_case side part m n x y c a b k) e
 
+  left_by_parts : (m : ℕ) (a b : Option Statement) → of_two (side_closed m 1) a b ≡ of_two (by_side 1 (λ parts. parts.right) m) a b
+  left_by_parts m a b = λ i. of_two (λ x y. left_closed m x y i) a b
+
+  right_by_parts : (m : ℕ) (a b : Option Statement) → of_two (side_closed m 2) a b ≡ of_two (by_side 2 (λ parts. parts.left) m) a b
+  right_by_parts m a b = λ i. of_two (λ x y. right_closed m x y i) a b
+
   abbrev empty_clause : Clause
   empty_clause = record { constraint = []; antecedent = []; succedent = [] }
 
@@ -176,9 +184,9 @@ module _ (P : ℕ → Type 0) (f : ℕ → ℕ) (keeps : KeepsOrder P f) (earlie
   both_parts true t e = (refl, e)
   both_parts false t e = absurd (cc)
 
-  made_both : (m n o : ℕ) (x y z c : Statement) → numbered earlier m ≡ Some x → numbered earlier n ≡ Some y → numbered earlier o ≡ Some z → case_both m x y z ≡ Some c → Outcome (m ∷ n ∷ o ∷ []) (of_three (case_both (f m)) (numbered others (f m)) (numbered others (f n)) (numbered others (f o))) c
+  made_both : (m n o : ℕ) (x y z c : Statement) → numbered earlier m ≡ Some x → numbered earlier n ≡ Some y → numbered earlier o ≡ Some z → both_closed m x y z ≡ Some c → Outcome (m ∷ n ∷ o ∷ []) (of_three (both_closed (f m)) (numbered others (f m)) (numbered others (f n)) (numbered others (f o))) c
   made_both m n o x y z c a b g e =
-      chosen (closes (side_of m 1) y && closes (side_of m 2) z) (Some (states empty_clause (united (united (left_over m 1 y) (left_over m 2 z)) x.deps))) c (Outcome (m ∷ n ∷ o ∷ []) (of_three (case_both (f m)) (numbered others (f m)) (numbered others (f n)) (numbered others (f o))) c) (λ t u.
+      chosen (closes (side_of m 1) y && closes (side_of m 2) z) (Some (states empty_clause (united (united (left_over m 1 y) (left_over m 2 z)) x.deps))) c (Outcome (m ∷ n ∷ o ∷ []) (of_three (both_closed (f m)) (numbered others (f m)) (numbered others (f n)) (numbered others (f o))) c) (λ t u.
       let k = same_Some (states empty_clause (united (united (left_over m 1 y) (left_over m 2 z)) x.deps)) c u in
       let first = is_first m (n ∷ o ∷ []) in
       let second = is_later m n (n ∷ o ∷ []) (is_first n (o ∷ [])) in
@@ -200,9 +208,9 @@ module _ (P : ℕ → Type 0) (f : ℕ → ℕ) (keeps : KeepsOrder P f) (earlie
             let deps : renumbered_deps f (united (united (left_over m 1 y) (left_over m 2 z)) x.deps) ≡ united (united (left_over (f m) 1 (renumbered_statement f y)) (left_over (f m) 2 (renumbered_statement f z))) (renumbered_deps f x.deps) =
             renumbered_united P f keeps (united (left_over m 1 y) (left_over m 2 z)) x.deps (over_united P (left_over m 1 y) (left_over m 2 z) v w) p.1
             ∙ ap (λ i. united i (renumbered_deps f x.deps)) (renumbered_united P f keeps (left_over m 1 y) (left_over m 2 z) v w ∙ ap (λ i. united i (renumbered_deps f (left_over m 2 z))) left ∙ ap (united (left_over (f m) 1 (renumbered_statement f y))) right) in
-            ap (λ i. of_three (case_both (f m)) i (numbered others (f n)) (numbered others (f o))) (moved m x first a)
-            ∙ ap (λ i. of_three (case_both (f m)) (Some (renumbered_statement f x)) i (numbered others (f o))) (moved n y second b)
-            ∙ ap (of_three (case_both (f m)) (Some (renumbered_statement f x)) (Some (renumbered_statement f y))) (moved o z third g)
+            ap (λ i. of_three (both_closed (f m)) i (numbered others (f n)) (numbered others (f o))) (moved m x first a)
+            ∙ ap (λ i. of_three (both_closed (f m)) (Some (renumbered_statement f x)) i (numbered others (f o))) (moved n y second b)
+            ∙ ap (of_three (both_closed (f m)) (Some (renumbered_statement f x)) (Some (renumbered_statement f y))) (moved o z third g)
             ∙ ap (λ s. cond (s && closes (side_of (f m) 2) (renumbered_statement f z)) (Some (states empty_clause (united (united (left_over (f m) 1 (renumbered_statement f y)) (left_over (f m) 2 (renumbered_statement f z))) (renumbered_deps f x.deps)))) None) (closes_renumbered m 1 y p.0 q.1 ∙ closed.0)
             ∙ ap (λ s. cond s (Some (states empty_clause (united (united (left_over (f m) 1 (renumbered_statement f y)) (left_over (f m) 2 (renumbered_statement f z))) (renumbered_deps f x.deps)))) None) (closes_renumbered m 2 z p.0 r.1 ∙ closed.1)
             ∙ ap (λ i. Some (states empty_clause i)) (sym deps)
@@ -236,14 +244,18 @@ module _ (P : ℕ → Type 0) (f : ℕ → ℕ) (keeps : KeepsOrder P f) (earlie
   outcome input (Assume side negated) (m ∷ n ∷ ms) c e = absurd (cc)
   outcome input CaseLeft [] c e = absurd (cc)
   outcome input CaseLeft (m ∷ []) c e = absurd (cc)
-  outcome input CaseLeft (m ∷ n ∷ []) c e = from_case 1 (λ parts. parts.right) m n c e
+  outcome input CaseLeft (m ∷ n ∷ []) c e =
+      subst (λ o. Outcome (m ∷ n ∷ []) o c) (sym (left_by_parts (f m) (numbered others (f m)) (numbered others (f n))))
+      (from_case 1 (λ parts. parts.right) m n c (sym (left_by_parts m (numbered earlier m) (numbered earlier n)) ∙ e))
   outcome input CaseLeft (m ∷ n ∷ o ∷ ms) c e = absurd (cc)
   outcome input CaseRight [] c e = absurd (cc)
   outcome input CaseRight (m ∷ []) c e = absurd (cc)
-  outcome input CaseRight (m ∷ n ∷ []) c e = from_case 2 (λ parts. parts.left) m n c e
+  outcome input CaseRight (m ∷ n ∷ []) c e =
+      subst (λ o. Outcome (m ∷ n ∷ []) o c) (sym (right_by_parts (f m) (numbered others (f m)) (numbered others (f n))))
+      (from_case 2 (λ parts. parts.left) m n c (sym (right_by_parts m (numbered earlier m) (numbered earlier n)) ∙ e))
   outcome input CaseRight (m ∷ n ∷ o ∷ ms) c e = absurd (cc)
   outcome input CaseBoth [] c e = absurd (cc)
   outcome input CaseBoth (m ∷ []) c e = absurd (cc)
   outcome input CaseBoth (m ∷ n ∷ []) c e = absurd (cc)
-  outcome input CaseBoth (m ∷ n ∷ o ∷ []) c e = three_of (case_both m) (numbered earlier m) (numbered earlier n) (numbered earlier o) c (Outcome (m ∷ n ∷ o ∷ []) (of_three (case_both (f m)) (numbered others (f m)) (numbered others (f n)) (numbered others (f o))) c) (λ x y z a b g k. made_both m n o x y z c a b g k) e
+  outcome input CaseBoth (m ∷ n ∷ o ∷ []) c e = three_of (both_closed m) (numbered earlier m) (numbered earlier n) (numbered earlier o) c (Outcome (m ∷ n ∷ o ∷ []) (of_three (both_closed (f m)) (numbered others (f m)) (numbered others (f n)) (numbered others (f o))) c) (λ x y z a b g k. made_both m n o x y z c a b g k) e
   outcome input CaseBoth (m ∷ n ∷ o ∷ p ∷ ms) c e = absurd (cc)

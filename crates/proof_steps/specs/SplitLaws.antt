@@ -124,14 +124,11 @@ each_marked marks = ap (λ ms. list_all not (map not (either marks ms))) (no_mor
 
 -- where the clause has parts, closing both of them by the one rule leaves the empty clause
 pub both_by_cases : (split : ℕ) (r e f : Statement) (parts : Parted) → parts_of r.clause ≡ Some parts → by_cases split (1 ∷ 2 ∷ []) r (e ∷ f ∷ []) ≡ both_closed split r e f
-both_by_cases split r e f parts h = by_marks (left_marks r.clause) h (are_closed split (1 ∷ 2 ∷ []) (e ∷ f ∷ []))
+both_by_cases split r e f parts h = by_marks (closed_deps split r.deps (1 ∷ 2 ∷ []) (e ∷ f ∷ [])) (left_marks r.clause) h (are_closed split (1 ∷ 2 ∷ []) (e ∷ f ∷ []))
   where
-    abbrev deps : List Assumption
-    deps = closed_deps split r.deps (1 ∷ 2 ∷ []) (e ∷ f ∷ [])
-
-    by_marks : (o : Option (List Bool)) → option_map (parted_by r.clause) o ≡ Some parts → (t : Bool) →
+    by_marks : (deps : List Assumption) (o : Option (List Bool)) → option_map (parted_by r.clause) o ≡ Some parts → (t : Bool) →
         option_and_then (λ marks. when (ascend_within 0 (length marks) (1 ∷ 2 ∷ []) && t) (states (without_parts marks (1 ∷ 2 ∷ []) r.clause) deps)) (option_map (λ marks. marks ∷ map not marks ∷ []) o)
         ≡ when t (states (record { constraint = []; antecedent = []; succedent = [] }) deps)
-    by_marks None h t = absurd (none-some _ h)
-    by_marks (Some marks) h false = refl
-    by_marks (Some marks) h true = ap (λ c. Some (states (in_order c) deps)) (nothing_left r.clause (map not (either marks (either (map not marks) []))) (each_marked marks))
+    by_marks deps None h t = absurd (none-some _ h)
+    by_marks deps (Some marks) h false = refl
+    by_marks deps (Some marks) h true = ap (λ c. Some (states (in_order c) deps)) (nothing_left r.clause (map not (either marks (either (map not marks) []))) (each_marked marks))

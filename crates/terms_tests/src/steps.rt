@@ -272,14 +272,21 @@ fn add(
     Ok(())
 }
 
-/// P(a) or Q(a), and neither.
-fn neither(alloc: Global) -> Result<Vec<Clause>, AllocError> {
+/// Three clauses.
+fn three(alloc: Global, rows: [Written; 3]) -> Result<Vec<Clause>, AllocError> {
     let mut input = Vec::with_capacity(alloc, 3)?;
-    let rows: [Written; 3] = [(b"", b"", b"PaQa"), (b"", b"Pa", b""), (b"", b"Qa", b"")];
     for written in rows {
         input.push(clause(alloc, written)?)?;
     }
     Ok(input)
+}
+
+/// P(a) or Q(a), and neither.
+fn neither(alloc: Global) -> Result<Vec<Clause>, AllocError> {
+    three(
+        alloc,
+        [(b"", b"", b"PaQa"), (b"", b"Pa", b""), (b"", b"Qa", b"")],
+    )
 }
 
 /// Both sides of the first clause's split, closed.
@@ -312,5 +319,31 @@ fn a_proof_by_cases_is_checked(rt: HostRuntime) -> Result<(), Fail> {
         !check(alloc, input, lines.as_slice())?,
         "a parent that is no earlier line"
     );
+    Ok(())
+}
+
+#[test]
+fn a_proof_by_an_equation_is_checked(rt: HostRuntime) -> Result<(), Fail> {
+    let alloc = rt.alloc();
+    // a = b, P(g(a)), not P(g(b))
+    let input = three(
+        alloc,
+        [(b"", b"", b"=ab"), (b"", b"", b"Pga"), (b"", b"Pgb", b"")],
+    )?;
+    let input = input.as_slice();
+    let mut lines = Vec::with_capacity(alloc, 5)?;
+    for no in 1..4 {
+        add(alloc, input, &mut lines, Rule::Input { no }, &[])?;
+    }
+    let rewrite = paramodulate(alloc, true, Part::Antecedent, 0, &[0, 0], b"")?;
+    add(alloc, input, &mut lines, rewrite, &[1, 3])?;
+    let rewritten = clause(alloc, (b"", b"Pga", b""))?;
+    assert!(rt;
+        lines
+            .last()
+            .is_some_and(|line| same_clause(&line.stated.clause, &rewritten))
+    );
+    add(alloc, input, &mut lines, resolve(alloc, b"", b"")?, &[2, 4])?;
+    assert!(rt; check(alloc, input, lines.as_slice())?);
     Ok(())
 }

@@ -22,7 +22,8 @@ use Rattle.case_journal.specs.Journal.{Setting, ledger}
 use Rattle.case_journal.specs.Legal.{IsLegalJournal}
 use Rattle.worker_cases.specs.Working.{AreOrdered, IsSound}
 use Rattle.proof_steps.specs.Parts.{Parted, parts_of, part_by, parted_by, left_marks, negation, negated_atom}
-use Rattle.proof_steps.specs.Steps.{numbered, when, fits, without, joined, may_resolve, resolvent, resolved, paramodulated, sides_of, reflexed, equality_factored, conclude, concluded, of_one, of_two, of_three, resolution, factored, paramodulation, rewritten, reflection, equality_factoring, factored_sides, assumed, assumption_of, case_left, case_right, case_both}
+use Rattle.proof_steps.specs.Steps.{numbered, when, fits, without, joined, may_resolve, resolvent, resolved, paramodulated, sides_of, reflexed, equality_factored, conclude, concluded, of_one, of_two, of_three, resolution, factored, paramodulation, rewritten, reflection, equality_factoring, factored_sides, assumption_of, side_closed, both_closed}
+use Rattle.proof_steps.specs.SplitLaws.{assumed_of_two, assumption_of-two, left_closed, right_closed}
 
 abbrev pub IsInOrder : Clause → Type 0
 IsInOrder c = (x : Clause) × (c ≡ in_order x)
@@ -111,11 +112,11 @@ side_one_or_two true b l r c e hl hr = let same : l ≡ c = cc in subst IsInOrde
 side_one_or_two false true l r c e hl hr = let same : r ≡ c = cc in subst IsInOrder same hr
 side_one_or_two false false l r c e hl hr = absurd (cc)
 
-by_assumption : (side : ℕ) (negated : Option ℕ) (d c : Clause) (parts : Parted) → parts_of d ≡ Some parts → assumed side negated parts ≡ Some c → IsInOrder c
+by_assumption : (side : ℕ) (negated : Option ℕ) (d c : Clause) (parts : Parted) → parts_of d ≡ Some parts → assumed_of_two side negated parts ≡ Some c → IsInOrder c
 by_assumption side None d c parts is e = let h = parts_ordered d parts is in side_one_or_two (side == 1) (side == 2) parts.left parts.right c e h.0 h.1
 by_assumption side (Some k) d c parts is e = by_negation k parts.left c (some_if _ _ c e)
 
-assumed_from : (side : ℕ) (negated : Option ℕ) (d c : Clause) (o : Option Parted) → parts_of d ≡ o → option_and_then (assumed side negated) o ≡ Some c → IsInOrder c
+assumed_from : (side : ℕ) (negated : Option ℕ) (d c : Clause) (o : Option Parted) → parts_of d ≡ o → option_and_then (assumed_of_two side negated) o ≡ Some c → IsInOrder c
 assumed_from side negated d c None is e = absurd (cc)
 assumed_from side negated d c (Some parts) is e = by_assumption side negated d c parts is e
 
@@ -143,18 +144,18 @@ ordered_by input earlier (EqFactor i i_right j j_right a) (m ∷ []) s e =
     subst IsInOrder (ap (λ (t : Statement). t.clause) c.2) (by_equality_factoring i i_right j j_right a.terms p.0.clause c.0 c.1)
 ordered_by input earlier (Assume side negated) (m ∷ []) s e =
     let p = some_of_one (assumption_of m side negated) (numbered earlier m) s e in
-    let c = some_map _ (option_and_then (assumed side negated) (parts_of p.0.clause)) s p.1 in
+    let c = some_map _ (option_and_then (assumed_of_two side negated) (parts_of p.0.clause)) s (sym (assumption_of-two m side negated p.0) ∙ p.1) in
     subst IsInOrder (ap (λ (t : Statement). t.clause) c.2) (assumed_from side negated p.0.clause c.0 (parts_of p.0.clause) refl c.1)
 ordered_by input earlier CaseLeft (m ∷ n ∷ []) s e =
-    let p = some_of_two (case_left m) (numbered earlier m) (numbered earlier n) s e in
-    let c = some_map _ (parts_of p.0.clause) s (some_if _ _ s p.2) in
+    let p = some_of_two (side_closed m 1) (numbered earlier m) (numbered earlier n) s e in
+    let c = some_map _ (parts_of p.0.clause) s (some_if _ _ s (sym (left_closed m p.0 p.1) ∙ p.2)) in
     subst IsInOrder (ap (λ (t : Statement). t.clause) c.2) (parts_ordered p.0.clause c.0 c.1).1
 ordered_by input earlier CaseRight (m ∷ n ∷ []) s e =
-    let p = some_of_two (case_right m) (numbered earlier m) (numbered earlier n) s e in
-    let c = some_map _ (parts_of p.0.clause) s (some_if _ _ s p.2) in
+    let p = some_of_two (side_closed m 2) (numbered earlier m) (numbered earlier n) s e in
+    let c = some_map _ (parts_of p.0.clause) s (some_if _ _ s (sym (right_closed m p.0 p.1) ∙ p.2)) in
     subst IsInOrder (ap (λ (t : Statement). t.clause) c.2) (parts_ordered p.0.clause c.0 c.1).0
 ordered_by input earlier CaseBoth (m ∷ n ∷ o ∷ []) s e =
-    let p = some_of_three (case_both m) (numbered earlier m) (numbered earlier n) (numbered earlier o) s e in
+    let p = some_of_three (both_closed m) (numbered earlier m) (numbered earlier n) (numbered earlier o) s e in
     (record { constraint = []; antecedent = []; succedent = [] }, ap (λ (t : Statement). t.clause) (sym (some_when _ _ s p.3)))
 ordered_by input earlier _ _ s e = absurd (cc)
 
