@@ -1,6 +1,6 @@
 -- Subsumption, reductions, coverage and notes on small clauses.
 use Rattle.std.proofs.Common.{◌≡◌, ◌⊎◌, inl, inr, ℕ, zero, suc, ◌<◌, true, false, List, [], ◌∷◌, length, refl, sym, ap, ◌∙◌, subst, arith}
-use Rattle.std.specs.Prelude.{Some, slice_get, IsSomeAnd, Contains}
+use Rattle.std.specs.Prelude.{Some, None, slice_get, IsSomeAnd, Contains}
 use Rattle.std.specs.List.{list_any}
 use Rattle.std.proofs.lemmas.Bool.{false≢true}
 use Rattle.spl_terms.specs.declared.term.Term.{Term}
@@ -280,4 +280,45 @@ example_first_equation = record {
   found = refl;
   others = no_odd_reason;
   reasoned = record { whole = record { now = clause [] (p a ∷ []) (p a ∷ []); ever = clause [] (p b ∷ p a ∷ []) (p a ∷ []) }; applied = odd_applies; maps = inr (refl, simp computes) };
+}
+
+-- Q(c) is hidden by two edits at one place, where c = b and b = a: the second one finds what the first one left there
+abbrev twice_ledger : List Statement
+twice_ledger = states (clause [] [] (q c ∷ [])) [] ∷ states (clause [] [] (Equal c b ∷ [])) [] ∷ states (clause [] [] (Equal b a ∷ [])) [] ∷ states (clause [] [] (q a ∷ [])) [] ∷ []
+
+abbrev edit_of : ℕ → Edit
+edit_of equation = record { equation = equation; subst = by []; right_to_left = false; spot = record { part = Succedent; place = 0; path = 0 ∷ [] } }
+
+twice_applies : edited twice_ledger (clause [] [] (q c ∷ [])) (edit_of 2 ∷ edit_of 3 ∷ []) ≡ Some (record { now = clause [] [] (q a ∷ []); ever = clause [] [] (q c ∷ q b ∷ q a ∷ []) })
+twice_applies = simp computes
+
+-- in the other order the first edit finds nothing to rewrite
+pub example_edits_exchanged : edited twice_ledger (clause [] [] (q c ∷ [])) (edit_of 3 ∷ edit_of 2 ∷ []) ≡ None
+example_edits_exchanged = simp computes
+
+q_there : list_any (is_same (replace_in_atom (entry []) (q a))) (q c ∷ q b ∷ q a ∷ []) ≡ true
+q_there = simp computes
+
+twice_maps : EachPart (Maps (entry [])) (clause [] [] (q a ∷ [])) (clause [] [] (q c ∷ q b ∷ q a ∷ []))
+twice_maps Constraint k d e = absurd (cc)
+twice_maps Antecedent k d e = absurd (cc)
+twice_maps Succedent zero d e = (let same : q a ≡ d = cc in subst (λ x. list_any (is_same (replace_in_atom (entry []) x)) (q c ∷ q b ∷ q a ∷ []) ≡ true) same q_there)
+twice_maps Succedent (suc k) d e = absurd (cc)
+
+no_twice_reason : Contains {X = ℕ} (4 ∷ 2 ∷ 3 ∷ []) 1 → ⊥
+no_twice_reason (zero, h, e) = omega arith
+no_twice_reason (suc zero, h, e) = omega arith
+no_twice_reason (suc (suc zero), h, e) = omega arith
+no_twice_reason (suc (suc (suc k)), h, e) = omega (arith, h)
+
+pub example_two_edits : IsJustified (record { hidden = 1; why = Rewritten 4 (by []) (edit_of 2 ∷ edit_of 3 ∷ []) }) twice_ledger
+example_two_edits = record {
+  hidden = states (clause [] [] (q c ∷ [])) [];
+  found = refl;
+  others = no_twice_reason;
+  reasoned = record {
+    whole = record { now = clause [] [] (q a ∷ []); ever = clause [] [] (q c ∷ q b ∷ q a ∷ []) };
+    applied = twice_applies;
+    maps = inl (record { reason = states (clause [] [] (q a ∷ [])) []; found = refl; entries = simp computes; maps = twice_maps });
+  };
 }

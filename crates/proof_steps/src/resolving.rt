@@ -13,6 +13,15 @@ use spl_terms::{Atom, Clause, Items, Part, PushError, at, same_atom};
 use spl_truth::is_ground;
 use std::alloc::{AllocError, Global};
 
+/// The two literals that are resolved: atom `i` of the succedent of the first clause, and atom `j` of this part of the
+/// second one, counting from 0.
+#[derive(Clone, Copy, Debug)]
+pub struct Literals {
+    pub i: u32,
+    pub part: Part,
+    pub j: u32,
+}
+
 // ---- the test
 
 fn is_negative(part: Part) -> bool
@@ -140,18 +149,18 @@ fn resolvent(
 /// The resolvent in order, with the dependencies of both clauses.
 fn resolvent_stated(
     alloc: Global,
-    i: u32,
-    part: Part,
-    j: u32,
+    literals: Literals,
     p: &Clause,
     q: &Clause,
     p_deps: &Deps,
     q_deps: &Deps,
 ) -> Result<Statement, PushError>
-    requires { may_resolve i part j p.now q.now ≡ true }
-    ensures ok { IfOk result (λ s. s ≡ states (in_order (resolvent i part j p.now q.now)) (united p_deps.now q_deps.now)) }
-    ensures big { FitsOrBig (clause_symbols (in_order (resolvent i part j p.now q.now))) result }
+    requires { may_resolve literals.i literals.part literals.j p.now q.now ≡ true }
+    ensures ok { IfOk result (λ s. s ≡
+        states (in_order (resolvent literals.i literals.part literals.j p.now q.now)) (united p_deps.now q_deps.now)) }
+    ensures big { FitsOrBig (clause_symbols (in_order (resolvent literals.i literals.part literals.j p.now q.now))) result }
 {
+    let Literals { i, part, j } = literals;
     let Ok(joined) = resolvent(alloc, i, part, j, p, q) else {
         return Err(PushError::Memory);
     };
@@ -165,20 +174,20 @@ fn resolvent_stated(
 /// What resolution concludes from two clauses as they stand.
 pub fn resolved(
     alloc: Global,
-    i: u32,
-    part: Part,
-    j: u32,
+    literals: Literals,
     p: &Clause,
     q: &Clause,
     p_deps: &Deps,
     q_deps: &Deps,
 ) -> Result<Option<Statement>, PushError>
-    ensures { Sized (option_map (λ c. states c (united p_deps.now q_deps.now)) (resolved i part j p.now q.now)) result }
+    ensures { Sized
+        (option_map (λ c. states c (united p_deps.now q_deps.now)) (resolved literals.i literals.part literals.j p.now q.now))
+        result }
 {
-    if !may_resolve(i, part, j, p, q) {
+    if !may_resolve(literals.i, literals.part, literals.j, p, q) {
         return Ok(None);
     }
-    let made = resolvent_stated(alloc, i, part, j, p, q, p_deps, q_deps)?;
+    let made = resolvent_stated(alloc, literals, p, q, p_deps, q_deps)?;
     Ok(Some(made))
 }
 
@@ -210,7 +219,8 @@ pub fn resolve_statements(
     if !applies(i, part, j, p, q) {
         return Ok(None);
     }
-    resolved(alloc, i, part, j, &p.clause, &q.clause, &p.deps, &q.deps)
+    let literals = Literals { i, part, j };
+    resolved(alloc, literals, &p.clause, &q.clause, &p.deps, &q.deps)
 }
 
 /// Whether `resolve_lines` concludes anything at these places, of any size; it takes no memory.
