@@ -1,16 +1,15 @@
 -- Marks of atoms: how they spread, and what they pick.
-use Rattle.std.proofs.Common.{◌≡◌, ℕ, zero, suc, ◌+◌, ◌-◌, ◌<◌, ◌≤◌, Bool, true, false, not, ◌||◌, ◌==◌, List, [], ◌∷◌, ◌++◌, length, map, drop, refl, sym, ap, ◌∙◌, arith, append_assoc, append-nil, length-append, length-set, length-drop, take, subst, add-one, replicate, Option, Some, None, option_and_then, if◌then◌else◌}
+use Rattle.std.proofs.Common.{◌≡◌, ℕ, zero, suc, ◌+◌, ◌-◌, ◌<◌, ◌≤◌, Bool, true, false, not, ◌||◌, ◌==◌, List, [], ◌∷◌, ◌++◌, length, map, refl, sym, ap, ◌∙◌, arith, append_assoc, append-nil, length-drop, take, subst, add-one, Option, Some, None, option_and_then, if◌then◌else◌}
 use Rattle.std.specs.List.{list_any}
 use Rattle.std.specs.List.{slice_get}
-use Rattle.std.proofs.lemmas.List.{length-replicate, map-append}
-use Rattle.std.proofs.lemmas.List.Folds.{list_any-append}
+use Rattle.std.proofs.lemmas.List.{map-append}
 use Rattle.spl_terms.specs.declared.atom.Atom.{Atom}
 use Rattle.spl_terms.specs.declared.clause.Clause.{Clause}
 use Rattle.spl_terms.specs.Clauses.{atom_variables, atoms_of}
 use Rattle.spl_terms.specs.TermLaws.{term_variables-Var, term_variables-App}
-use Rattle.clause_parts.specs.Parts.{variable_lists, share, marked, spread_from, spread, spread_times, only, component, has_succedent, first_head, if_rest, left_marks, succedent_marks}
+use Rattle.clause_parts.specs.Parts.{variable_lists, share, marked, spread_from, spread, spread_times, component, has_succedent, first_head, if_rest, left_marks, succedent_marks}
 use Rattle.spl_terms.specs.ListLaws.{get-left, get-behind}
-use Rattle.clause_parts.specs.MarkLaws.{share-reached, stays, length-spread_from, length-component, length-lists, length-atoms}
+use Rattle.clause_parts.specs.MarkLaws.{share-reached, stays, length-component, length-lists, length-atoms}
 use Rattle.clause_parts.specs.Marking.{marked_variables, spread_over, all_if}
 
 pub ruleset variable_laws = (term_variables-Var, term_variables-App, append_assoc, append-nil)

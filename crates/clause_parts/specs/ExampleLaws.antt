@@ -1,5 +1,4 @@
--- Laws with their proofs, not definitions that a reader must believe: the parts of two small clauses, with the words in which
--- examples are written.
+-- Laws with their proofs, not definitions that a reader must believe: the parts of two small clauses.
 use Rattle.std.proofs.Common.{◌≡◌, ℕ, true, false, ◌&&◌, ◌||◌, if◌then◌else◌, List, [], ◌∷◌, ◌++◌, Some, option_map, option_and_then, ap, ◌∙◌}
 use Rattle.spl_terms.specs.declared.term.Kind.TheVariants.{Function, Predicate}
 use Rattle.spl_terms.specs.declared.term.Term.{Term, Var, App}
@@ -14,28 +13,28 @@ use Rattle.clause_parts.specs.Parts.{share, variable_lists, spread, component, h
 
 -- ---- the words of the examples
 
-abbrev pub constant : ℕ → Term
+abbrev constant : ℕ → Term
 constant n = App (record { number = n; kind = Function }) []
 
-abbrev pub a : Term
+abbrev a : Term
 a = constant 0
 
-abbrev pub b : Term
+abbrev b : Term
 b = constant 1
 
-abbrev pub holds : ℕ → Term → Atom
+abbrev holds : ℕ → Term → Atom
 holds n t = Holds (record { number = n; kind = Predicate }) (t ∷ [])
 
 -- constraint, antecedent and succedent
-abbrev pub clause : List Atom → List Atom → List Atom → Clause
+abbrev clause : List Atom → List Atom → List Atom → Clause
 clause constraint antecedent succedent = record { constraint = constraint; antecedent = antecedent; succedent = succedent }
 
 -- P(a) or Q(b)
-abbrev pub either : Clause
+abbrev either : Clause
 either = clause [] [] (holds 4 a ∷ holds 5 b ∷ [])
 
 -- P(x) or Q(x) or R(b): the atoms of x stay together
-abbrev pub linked : Clause
+abbrev linked : Clause
 linked = clause [] [] (holds 4 (Var 0) ∷ holds 5 (Var 0) ∷ holds 8 b ∷ [])
 
 -- ---- one atom of a constant

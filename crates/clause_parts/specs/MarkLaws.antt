@@ -1,17 +1,14 @@
 -- Laws with their proofs, not definitions that a reader must believe: when lists of numbers share one, what spreading marks
 -- keeps, and how many marks there are.
-use Rattle.std.proofs.Common.{◌≡◌, ℕ, zero, suc, ◌+◌, ◌-◌, ◌<◌, ◌≤◌, Bool, true, false, not, ◌||◌, ◌==◌, List, [], ◌∷◌, ◌++◌, length, map, drop, refl, sym, ap, ◌∙◌, arith, append_assoc, append-nil, length-append, length-set, length-drop, take, subst, add-one, replicate, Option, Some, None, option_and_then, if◌then◌else◌}
+use Rattle.std.proofs.Common.{◌≡◌, ℕ, zero, suc, ◌+◌, ◌-◌, ◌<◌, ◌≤◌, Bool, true, false, ◌||◌, ◌==◌, List, [], ◌∷◌, ◌++◌, length, refl, ap, ◌∙◌, arith, length-append, length-set, replicate, if◌then◌else◌}
 use Rattle.std.specs.List.{list_any}
-use Rattle.std.specs.List.{slice_get}
 use Rattle.std.proofs.lemmas.List.{length-replicate, length-map}
 use Rattle.std.proofs.lemmas.List.Folds.{list_any-append}
 use Rattle.spl_terms.specs.BoolLaws.{or-exchange}
-use Rattle.spl_terms.specs.declared.atom.Atom.{Atom}
 use Rattle.spl_terms.specs.declared.clause.Clause.{Clause}
 use Rattle.spl_terms.specs.Clauses.{atom_variables, atoms_of}
-use Rattle.spl_terms.specs.TermLaws.{term_variables-Var, term_variables-App}
-use Rattle.clause_parts.specs.Parts.{variable_lists, share, marked, spread_from, spread, spread_times, only, component, has_succedent, first_head, if_rest, left_marks, succedent_marks}
-use Rattle.clause_parts.specs.Marking.{marked_variables, spread_over, all_if}
+use Rattle.clause_parts.specs.Parts.{variable_lists, share, marked, spread_from, spread, spread_times, only, component}
+use Rattle.clause_parts.specs.Marking.{marked_variables}
 
 -- ---- shared numbers
 

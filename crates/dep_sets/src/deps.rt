@@ -93,7 +93,8 @@ impl Deps {
     #[tactic(auto, using(crate::proofs::Sets::set_laws))]
     pub fn union(&self, other: &Deps) -> Result<Deps, AllocError>
         ensures exact { IfOk result (λ deps. deps ≡ united self.now other.now) }
-        ensures members { IfOk result (λ deps. (a : Assumption) → contains_assumption deps a ≡ (contains_assumption self.now a || contains_assumption other.now a)) }
+        ensures members { IfOk result (λ deps. (a : Assumption) →
+            contains_assumption deps a ≡ (contains_assumption self.now a || contains_assumption other.now a)) }
     {
         let alloc = *self.items.allocator();
         let items = merged(alloc, self.items.as_slice(), other.items.as_slice())?;
@@ -111,7 +112,8 @@ impl Deps {
     #[tactic(auto, using(crate::proofs::Sets::set_laws))]
     pub fn without(&self, assumption: Assumption) -> Result<Deps, AllocError>
         ensures exact { IfOk result (λ deps. deps ≡ without_assumption assumption self.now) }
-        ensures members { IfOk result (λ deps. (a : Assumption) → contains_assumption deps a ≡ (not (is_same_assumption assumption a) && contains_assumption self.now a)) }
+        ensures members { IfOk result (λ deps. (a : Assumption) →
+            contains_assumption deps a ≡ (not (is_same_assumption assumption a) && contains_assumption self.now a)) }
     {
         let alloc = *self.items.allocator();
         let left = self.items.len() - usize::from(self.contains(assumption));

@@ -4,7 +4,7 @@ use Rattle.std.proofs.lemmas.Bool.{eqb-true, ltb-true, ltb-false, leb-false, lt-
 use Rattle.std.proofs.lemmas.List.{length-set}
 use Rattle.std.proofs.lemmas.List.Sums.{sum_by-cons, get_or-le-sum_by}
 use Rattle.std.proofs.lemmas.Grind.{fold-append}
-use Rattle.spl_terms.specs.TermLaws.{term_symbols-Var, term_symbols-App, term_symbols-positive, term_variables-Var, term_variables-App}
+use Rattle.spl_terms.specs.TermLaws.{term_symbols-Var, term_symbols-App, term_variables-Var, term_variables-App}
 use Rattle.kbo.specs.declared.side.Side.{Side}
 use Rattle.kbo.specs.declared.side.Side.TheVariants.{Left, Right}
 use Rattle.spl_truth.specs.Orders.{times, contains_each}

@@ -1,6 +1,5 @@
 -- The variables of terms, as walks meet them.
-use Rattle.std.proofs.Common.{◌≡◌, ℕ, ◌≤◌, min, Bool, true, false, ◌==◌, nat_le, if◌then◌else◌, List, [], ◌∷◌, length, map, sum, refl, ap, ◌∙◌, arith, eq-eqb, zero-add, length-append}
-use Rattle.std.proofs.lemmas.List.Sums.{sum_by-cons}
+use Rattle.std.proofs.Common.{◌≡◌, ℕ, ◌≤◌, min, Bool, true, false, ◌==◌, nat_le, if◌then◌else◌, List, [], ◌∷◌, map, sum, refl, ap, ◌∙◌, arith, eq-eqb, zero-add}
 use Rattle.std.specs.List.{flat_map}
 use Rattle.std.proofs.lemmas.Bool.{eqb-true}
 use Rattle.std.proofs.lemmas.List.Folds.{list_all-append, list_any-append}
@@ -9,7 +8,7 @@ use Rattle.spl_terms.specs.Terms.{term_symbols, term_variables}
 use Rattle.spl_terms.specs.TermLaws.{term_variables-Var, term_variables-App}
 use Rattle.spl_terms.specs.SizeLaws.{few_in_terms}
 use Rattle.spl_truth.specs.Orders.{times}
-use Rattle.kbo.proofs.TimesLemmas.{times-append, times-cons, times-within}
+use Rattle.kbo.proofs.TimesLemmas.{times-append, times-within}
 
 pub ruleset variables_laws = (term_variables-Var, term_variables-App, list_all-append, list_any-append)
 

@@ -60,7 +60,7 @@ is_as_often terms others v = nat_le (times v (flat_map term_variables others)) (
 
 -- the order, if the test says so
 abbrev pub order_if : Bool → Order → Order
-order_if yes o = if yes then o else Incomparable
+order_if passes o = if passes then o else Incomparable
 
 -- ---- what a tally stands for
 

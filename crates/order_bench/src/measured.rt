@@ -1,5 +1,5 @@
 //! Terms of which it is known that they are small enough to be compared.
-ghost use Rattle.std.specs.Prelude.{◌≤◌};
+ghost use Rattle.std.specs.Prelude.{◌≡◌, ◌<◌, ◌≤◌, MatchOption};
 ghost use Rattle.spl_terms.specs.Terms.{term_symbols};
 
 use spl_terms::Term;
@@ -14,7 +14,9 @@ pub struct Measured {
 
 impl Measured {
     /// The term, if it has at most 4,294,967,295 symbols.
-    pub fn new(term: Term) -> Option<Measured> {
+    pub fn new(term: Term) -> Option<Measured>
+        ensures { MatchOption result (4294967295 < term_symbols term) (λ made. made.term ≡ term) }
+    {
         if term.symbols() > 4_294_967_295 {
             return None;
         }

@@ -1,6 +1,6 @@
 -- What the definitions give on small clauses, computed. Places count from 0, and numbers of statements from 1.
 use Rattle.std.proofs.Common.{◌≡◌, ℕ, true, false, List, [], ◌∷◌, Option, Some, None, option_map, option_and_then, refl, ap, ◌∙◌}
-use Rattle.spl_terms.specs.declared.term.Kind.TheVariants.{Function, Sort}
+use Rattle.spl_terms.specs.declared.term.Kind.TheVariants.{Function, Predicate, Sort}
 use Rattle.spl_terms.specs.declared.term.Term.{Term, Var, App}
 use Rattle.spl_terms.specs.declared.atom.Atom.{Atom}
 use Rattle.spl_terms.specs.declared.atom.Atom.TheVariants.{Holds, Equal}
@@ -10,7 +10,8 @@ use Rattle.proof_steps.specs.declared.step.Rule.{Rule}
 use Rattle.proof_steps.specs.declared.step.Rule.TheVariants.{Input, Resolve, Factor, Paramodulate, Reflex, EqFactor, Assume, CaseLeft, CaseRight, CaseBoth}
 use Rattle.spl_terms.specs.declared.term.Term.TheViews.{outs-Var, outs-App}
 use Rattle.spl_terms.specs.TermLaws.{term_eq-Var-Var, term_eq-Var-App, term_eq-App-Var, term_eq-App-App, term_variables-Var, term_variables-App, replace-Var, replace-App, ground-Var, ground-App}
-use Rattle.clause_parts.specs.ExampleLaws.{constant, a, b, holds, clause, either, parts_either, linked, parts_linked}
+use Rattle.spl_terms.specs.declared.clause.Clause.{Clause}
+use Rattle.clause_parts.specs.ExampleLaws.{parts_either, parts_linked}
 use Rattle.proof_steps.specs.Steps.{states, side_of, conclude}
 use Rattle.proof_steps.specs.SplitLaws as split
 
@@ -18,6 +19,30 @@ use Rattle.proof_steps.specs.SplitLaws as split
 
 -- how the definitions by recursion on terms compute
 pub ruleset folds = (term_eq-Var-Var, term_eq-Var-App, term_eq-App-Var, term_eq-App-App, term_variables-Var, term_variables-App, replace-Var, replace-App, ground-Var, ground-App, outs-Var, outs-App)
+
+abbrev constant : ℕ → Term
+constant n = App (record { number = n; kind = Function }) []
+
+abbrev a : Term
+a = constant 0
+
+abbrev b : Term
+b = constant 1
+
+abbrev holds : ℕ → Term → Atom
+holds n t = Holds (record { number = n; kind = Predicate }) (t ∷ [])
+
+-- constraint, antecedent and succedent
+abbrev clause : List Atom → List Atom → List Atom → Clause
+clause constraint antecedent succedent = record { constraint = constraint; antecedent = antecedent; succedent = succedent }
+
+-- P(a) or Q(b)
+abbrev either : Clause
+either = clause [] [] (holds 4 a ∷ holds 5 b ∷ [])
+
+-- P(x) or Q(x) or R(b)
+abbrev linked : Clause
+linked = clause [] [] (holds 4 (Var 0) ∷ holds 5 (Var 0) ∷ holds 8 b ∷ [])
 
 abbrev c : Term
 c = constant 2

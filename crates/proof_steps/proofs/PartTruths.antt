@@ -12,7 +12,7 @@ use Rattle.clause_parts.specs.Parts.{marked, component, part_by, variable_lists,
 use Rattle.clause_parts.specs.Marking.{marked_variables}
 use Rattle.clause_parts.specs.MarkLaws.{length-atoms}
 use Rattle.proof_steps.proofs.Resolution.{negative, or_four}
-use Rattle.clause_parts.specs.JointLaws.{both, joint_left, joint_right, marked-append}
+use Rattle.clause_parts.specs.JointLaws.{combined, joint_left, joint_right, marked-append}
 
 -- ---- the marked atoms, part by part
 
@@ -46,7 +46,7 @@ module _ (f h : ℕ → Term) where
 
 -- what replaces the variables of the component by g, and all others by k
 abbrev pub jointly : ℕ → Clause → (ℕ → Term) → (ℕ → Term) → ℕ → Term
-jointly n c g k = both (marked_variables (component n (variable_lists c)) (variable_lists c)) g k
+jointly n c g k = combined (marked_variables (component n (variable_lists c)) (variable_lists c)) g k
 
 pub jointly_left : (n : ℕ) (c : Clause) (g k : ℕ → Term) → replace_in (jointly n c g k) (part_by c (component n (variable_lists c))) ≡ replace_in g (part_by c (component n (variable_lists c)))
 jointly_left n c g k = agree_part (jointly n c g k) g c (component n (variable_lists c)) (joint_left n (atoms_of c) g k)

@@ -13,7 +13,7 @@ use Rattle.spl_terms.specs.Terms.{symbol_eq, all_pass, is_application, term_vari
 use Rattle.spl_terms.specs.Clauses.{atom_variables, clause_variables}
 use Rattle.spl_terms.specs.Alike.{passing_variable, alike_step, alike, alike_terms, alike_atoms, alike_lists, alike_clauses}
 pub use Rattle.spl_terms.specs.VariableLaws.{variables-parts}
-use Rattle.spl_terms.specs.TermLaws.{term_symbols-App, term_symbols-positive, Each, term_induction, fold-Var, fold-App, term_eq-Var-Var, term_eq-Var-App, term_eq-App-Var, term_eq-App-App, term_variables-Var, term_variables-App}
+use Rattle.spl_terms.specs.TermLaws.{term_symbols-App, term_symbols-positive, Each, term_induction, fold-Var, fold-App, term_variables-Var, term_variables-App}
 
 -- ---- the equations of the definition
 

@@ -1,6 +1,7 @@
 -- What each answer to one equation means.
 use Rattle.std.proofs.Common.{◌≡◌, ◌⊎◌, inl, inr, ℕ, suc, Bool, true, false, ◌&&◌, ◌==◌, if◌then◌else◌, eq-eqb, List, [], ◌∷◌, length, map, refl, sym, ap, subst, ◌∙◌}
 use Rattle.std.specs.List.{zip}
+use Rattle.std.proofs.lemmas.List.{length-map}
 use Rattle.std.proofs.lemmas.Bool.{eqb-true, false≢true, and_parts}
 use Rattle.spl_terms.specs.declared.term.Symbol.{Symbol}
 use Rattle.spl_terms.specs.declared.term.Term.{Term, Var, App, out-Term}
@@ -31,10 +32,6 @@ Means a b (eliminate v t) = Bound a b v t
 Means a b (decompose more) = Split a b more
 Means a b clash = (g : ℕ → Term) → replace g a ≡ replace g b → ⊥
 
-length-map : (h : Term → Term) (ts : List Term) → length (map h ts) ≡ length ts
-length-map h [] = refl
-length-map h (t ∷ ts) = ap suc (length-map h ts)
-
 meant_variable : (a b : Term) (v : ℕ) (t : Term) → ((a ≡ Var v) × (b ≡ t)) ⊎ ((b ≡ Var v) × (a ≡ t)) → (a ≡ b → ⊥) → Means a b (action_of_variable v t)
 meant_variable a b v t sides differ = by_test (occurs v t) refl
   where
@@ -59,7 +56,7 @@ meant_applications f g ss ts = by_test (symbol_eq f g && (length ss == length ts
         let made : App f (map (replace h) ss) ≡ App g (map (replace h) ts) = sym (replace-App h f ss) ∙ same ∙ replace-App h g ts in
         let heads : f ≡ g = same_symbols _ _ _ _ made in
         let args : map (replace h) ss ≡ map (replace h) ts = same_arguments _ _ _ _ made in
-        let many : length ss ≡ length ts = sym (length-map (replace h) ss) ∙ ap length args ∙ length-map (replace h) ts in
+        let many : length ss ≡ length ts = sym (length-map ss (replace h)) ∙ ap length args ∙ length-map ts (replace h) in
         let one : symbol_eq f g ≡ true = ap (symbol_eq f) (sym heads) ∙ symbol_eq-refl f in
         let two : (length ss == length ts) ≡ true = eq-eqb _ _ many in
         false≢true (sym e ∙ ap (λ b. b && (length ss == length ts)) one ∙ two)

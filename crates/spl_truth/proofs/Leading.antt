@@ -6,7 +6,7 @@ use Rattle.spl_terms.specs.TermLaws.{term_symbols-positive}
 use Rattle.spl_truth.specs.Unifiers.{Action, trivial, eliminate, decompose, clash, action, Found, solved, bound, unsolvable, go_on, next_elimination, first_elimination, left_symbols, bind, bind_next, solution, Leads, ends, skips, binds, splits, fails}
 use Rattle.spl_truth.proofs.Actions.{Means, meant}
 use Rattle.spl_truth.proofs.Stepping.{first_elimination-cons, first_elimination-nil}
-use Rattle.spl_truth.specs.BindingLaws.{instance_at, IsWithin, IsFine, CanBind, bind_fine, within-replace, unbound_below, bind_fewer, left-append, left-cons, at_first, all_unbound}
+use Rattle.spl_truth.specs.BindingLaws.{instance_at, IsOver, IsFine, CanBind, bind_fine, within-replace, unbound_below, bind_fewer, left-append, left-cons, at_first, all_unbound}
 use Rattle.spl_truth.proofs.Solving.{AllWithin, AllWithin-append, split_within}
 use Rattle.spl_truth.proofs.Unifying.{MayGoOn, may_go_on, can_bind, left-split, in_either, left_within, right_within}
 
@@ -51,7 +51,7 @@ KeptBy n s es (eliminate v t) = CanBind n s v t
 KeptBy n s es (decompose more) = AllWithin n (more ++ es)
 KeptBy n s es clash = Unit {0}
 
-keeps : (n : ℕ → Bool) (s : ℕ → Term) → IsFine n s → (es : List (Term × Term)) (a b : Term) → replace s a ≡ a → replace s b ≡ b → IsWithin n a → IsWithin n b → AllWithin n es → (x : Action) → Means a b x → KeptBy n s es x
+keeps : (n : ℕ → Bool) (s : ℕ → Term) → IsFine n s → (es : List (Term × Term)) (a b : Term) → replace s a ≡ a → replace s b ≡ b → IsOver n a → IsOver n b → AllWithin n es → (x : Action) → Means a b x → KeptBy n s es x
 keeps n s fine es a b x y u w all trivial h = tt
 keeps n s fine es a b x y u w all (eliminate v t) h = can_bind n s fine a b v t h x y u w
 keeps n s fine es a b x y u w all (decompose more) h = AllWithin-append n more es (split_within n a b more h u w) all

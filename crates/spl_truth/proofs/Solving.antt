@@ -6,7 +6,7 @@ use Rattle.spl_terms.specs.declared.term.Term.{Term, App}
 use Rattle.spl_terms.specs.Terms.{replace}
 use Rattle.spl_terms.specs.ListLaws.{same_first, same_rest}
 use Rattle.spl_terms.specs.TermLaws.{replace-Var, replace-App}
-use Rattle.spl_truth.specs.BindingLaws.{cap, IsWithin}
+use Rattle.spl_truth.specs.BindingLaws.{cap, IsOver}
 use Rattle.spl_truth.specs.OccurrenceLaws.{same_arguments}
 use Rattle.spl_truth.proofs.Actions.{Split, Bound}
 
@@ -70,14 +70,14 @@ solved_bound g a b v t p e = elim p.sides [
 
 abbrev pub AllWithin : (ℕ → Bool) → List (Term × Term) → Type 0
 AllWithin n [] = Unit {0}
-AllWithin n (e ∷ es) = IsWithin n e.0 × IsWithin n e.1 × AllWithin n es
+AllWithin n (e ∷ es) = IsOver n e.0 × IsOver n e.1 × AllWithin n es
 
 AllWithin-zip : (n : ℕ → Bool) (ss ts : List Term) → map (replace (cap n)) ss ≡ ss → map (replace (cap n)) ts ≡ ts → AllWithin n (zip ss ts)
 AllWithin-zip n [] ts p q = tt
 AllWithin-zip n (s ∷ ss) [] p q = tt
 AllWithin-zip n (s ∷ ss) (t ∷ ts) p q =
-    let a : IsWithin n s = cc in
-    let b : IsWithin n t = cc in
+    let a : IsOver n s = cc in
+    let b : IsOver n t = cc in
     let c : map (replace (cap n)) ss ≡ ss = cc in
     let d : map (replace (cap n)) ts ≡ ts = cc in
     (a, b, AllWithin-zip n ss ts c d)
@@ -89,5 +89,5 @@ AllWithin-append n (e ∷ es) fs h k = (h.0, h.1, AllWithin-append n es fs h.2 k
 pub replaced_arguments : (h : ℕ → Term) (a : Term) (f : Symbol) (ts : List Term) → a ≡ App f ts → replace h a ≡ a → map (replace h) ts ≡ ts
 replaced_arguments h a f ts is e = same_arguments _ _ _ _ (sym (replace-App h f ts) ∙ ap (replace h) (sym is) ∙ e ∙ is)
 
-pub split_within : (n : ℕ → Bool) (a b : Term) (more : List (Term × Term)) → Split a b more → IsWithin n a → IsWithin n b → AllWithin n more
+pub split_within : (n : ℕ → Bool) (a b : Term) (more : List (Term × Term)) → Split a b more → IsOver n a → IsOver n b → AllWithin n more
 split_within n a b more p x y = subst (AllWithin n) (sym p.are) (AllWithin-zip n p.lefts p.rights (replaced_arguments (cap n) a _ _ p.left_is x) (replaced_arguments (cap n) b _ _ p.right_is y))

@@ -10,7 +10,7 @@ use Rattle.spl_truth.specs.Unifiers.{occurs, Action, trivial, eliminate, decompo
 use Rattle.spl_truth.specs.OccurrenceLaws.{agree}
 use Rattle.spl_truth.proofs.Actions.{Split, Bound, Means, meant}
 use Rattle.spl_truth.proofs.Solving.{Solves, Solves-append, Solves-first, Solves-rest, split_solved, solved_split, bound_solved, solved_bound, AllWithin, AllWithin-append, replaced_arguments, split_within}
-use Rattle.spl_truth.specs.BindingLaws.{IsInstance, instance_at, cap, IsWithin, IsFine, CanBind, cap-inside, inside_cap, within-replace, bind_instance, instance_bind, bind_fine, unbound_below, bind_fewer, left-append, left-cons, at_first, all_unbound}
+use Rattle.spl_truth.specs.BindingLaws.{IsInstance, instance_at, cap, IsOver, IsFine, CanBind, cap-inside, inside_cap, within-replace, bind_instance, instance_bind, bind_fine, unbound_below, bind_fewer, left-append, left-cons, at_first, all_unbound}
 
 -- ---- up to the next binding
 
@@ -74,25 +74,25 @@ module _ (n : ℕ → Bool) (s : ℕ → Term) (fine : IsFine n s) where
         find_step k (next_elimination k s) (solves_found k) es (replace s e.0) (replace s e.1) (twice e.0) (omega (arith, left-cons s e es)) _ (meant (replace s e.0) (replace s e.1))
         (instance_at g s is e.0 ∙ h.0 ∙ sym (instance_at g s is e.1)) h.1
 
-  pub can_bind : (a b : Term) (v : ℕ) (t : Term) → Bound a b v t → replace s a ≡ a → replace s b ≡ b → IsWithin n a → IsWithin n b → CanBind n s v t
+  pub can_bind : (a b : Term) (v : ℕ) (t : Term) → Bound a b v t → replace s a ≡ a → replace s b ≡ b → IsOver n a → IsOver n b → CanBind n s v t
   can_bind a b v t p x y u w = elim p.sides [
     | inl (q, r) ↦ record {
       free = sym (replace-Var s v) ∙ ap (replace s) (sym q) ∙ x ∙ q;
       applied = ap (replace s) (sym r) ∙ y ∙ r;
       apart = p.apart;
-      inside = inside_cap n v (subst (IsWithin n) q u);
-      within = subst (IsWithin n) r w;
+      inside = inside_cap n v (subst (IsOver n) q u);
+      within = subst (IsOver n) r w;
     }
     | inr (q, r) ↦ record {
       free = sym (replace-Var s v) ∙ ap (replace s) (sym q) ∙ y ∙ q;
       applied = ap (replace s) (sym r) ∙ x ∙ r;
       apart = p.apart;
-      inside = inside_cap n v (subst (IsWithin n) q w);
-      within = subst (IsWithin n) r u;
+      inside = inside_cap n v (subst (IsOver n) q w);
+      within = subst (IsOver n) r u;
     }
   ]
 
-  within_step : (rest : List (Term × Term) → Found) → ((es : List (Term × Term)) → AllWithin n es → MayGoOn n s (rest es)) → (es : List (Term × Term)) (a b : Term) → replace s a ≡ a → replace s b ≡ b → IsWithin n a → IsWithin n b → AllWithin n es → (x : Action) → Means a b x → MayGoOn n s (go_on rest es x)
+  within_step : (rest : List (Term × Term) → Found) → ((es : List (Term × Term)) → AllWithin n es → MayGoOn n s (rest es)) → (es : List (Term × Term)) (a b : Term) → replace s a ≡ a → replace s b ≡ b → IsOver n a → IsOver n b → AllWithin n es → (x : Action) → Means a b x → MayGoOn n s (go_on rest es x)
   within_step rest all es a b x y u w h trivial k = all es h
   within_step rest all es a b x y u w h (eliminate v t) k = (can_bind a b v t k x y u w, h)
   within_step rest all es a b x y u w h (decompose more) k = all (more ++ es) (AllWithin-append n more es (split_within n a b more k u w) h)
@@ -151,10 +151,10 @@ module _ (vars : ℕ) (n : ℕ → Bool) (below : (v : ℕ) → n v ≡ true →
 abbrev pub in_either : Term → Term → ℕ → Bool
 in_either a b v = occurs v a || occurs v b
 
-pub left_within : (a b : Term) → IsWithin (in_either a b) a
+pub left_within : (a b : Term) → IsOver (in_either a b) a
 left_within a b = agree (cap (in_either a b)) Var a (λ x o. cap-inside (in_either a b) x (or_left _ _ o)) ∙ replace-itself a
 
-pub right_within : (a b : Term) → IsWithin (in_either a b) b
+pub right_within : (a b : Term) → IsOver (in_either a b) b
 right_within a b = agree (cap (in_either a b)) Var b (λ x o. cap-inside (in_either a b) x (or_right (occurs x a) _ o)) ∙ replace-itself b
 
 abbrev pub Unifies : Term → Term → Option (ℕ → Term) → Type 0

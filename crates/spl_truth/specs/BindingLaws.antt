@@ -27,13 +27,13 @@ abbrev pub cap : (ℕ → Bool) → ℕ → Term
 cap n v = if n v then Var v else App (record { number = 0; kind = Function }) []
 
 -- each variable of t is in the set
-abbrev pub IsWithin : (ℕ → Bool) → Term → Type 0
-IsWithin n t = replace (cap n) t ≡ t
+abbrev pub IsOver : (ℕ → Bool) → Term → Type 0
+IsOver n t = replace (cap n) t ≡ t
 
 -- only variables of the set are bound, and only to terms over the set
 pub record IsFine (n : ℕ → Bool) (s : ℕ → Term) : Type 0 where
   pub idempotent : IsIdempotent s
-  pub within : (v : ℕ) → n v ≡ true → IsWithin n (s v)
+  pub within : (v : ℕ) → n v ≡ true → IsOver n (s v)
   pub outside : (v : ℕ) → n v ≡ false → s v ≡ Var v
 
 -- v is unbound, and t is what it may be bound to
@@ -42,7 +42,7 @@ pub record CanBind (n : ℕ → Bool) (s : ℕ → Term) (v : ℕ) (t : Term) : 
   pub applied : replace s t ≡ t
   pub apart : occurs v t ≡ false
   pub inside : n v ≡ true
-  pub within : IsWithin n t
+  pub within : IsOver n t
 
 if_true : {X : Type 0} (b : Bool) (x y : X) → b ≡ true → (if b then x else y) ≡ x
 if_true true x y e = refl
@@ -51,7 +51,7 @@ if_true false x y e = absurd (false≢true e)
 pub cap-inside : (n : ℕ → Bool) (v : ℕ) → n v ≡ true → cap n v ≡ Var v
 cap-inside n v h = if_true (n v) (Var v) _ h
 
-pub inside_cap : (n : ℕ → Bool) (v : ℕ) → IsWithin n (Var v) → n v ≡ true
+pub inside_cap : (n : ℕ → Bool) (v : ℕ) → IsOver n (Var v) → n v ≡ true
 inside_cap n v e = by_test (n v) refl (sym (replace-Var (cap n) v) ∙ e)
   where
     by_test : (b : Bool) → n v ≡ b → (if b then Var v else App (record { number = 0; kind = Function }) []) ≡ Var v → n v ≡ true
@@ -59,7 +59,7 @@ inside_cap n v e = by_test (n v) refl (sym (replace-Var (cap n) v) ∙ e)
     by_test false t h = absurd (no_application v _ [] h)
 
 -- applying bindings that stay below n
-pub within-replace : (n : ℕ → Bool) (s : ℕ → Term) → ((v : ℕ) → n v ≡ true → IsWithin n (s v)) → (t : Term) → IsWithin n t → IsWithin n (replace s t)
+pub within-replace : (n : ℕ → Bool) (s : ℕ → Term) → ((v : ℕ) → n v ≡ true → IsOver n (s v)) → (t : Term) → IsOver n t → IsOver n (replace s t)
 within-replace n s all t e = ap (λ x. replace (cap n) (replace s x)) (sym e) ∙ ap (replace (cap n)) (replace-replace s (cap n) t) ∙ replace-replace (cap n) (λ v. replace s (cap n v)) t ∙ (λ i. replace (λ v. at v i) t) ∙ sym (replace-replace s (cap n) t) ∙ ap (replace s) e
   where
     at_test : (v : ℕ) (b : Bool) → n v ≡ b → replace (cap n) (replace s (if b then Var v else App (record { number = 0; kind = Function }) [])) ≡ replace s (if b then Var v else App (record { number = 0; kind = Function }) [])
@@ -113,10 +113,10 @@ module _ (n : ℕ → Bool) (s : ℕ → Term) (v : ℕ) (t : Term) (fine : IsFi
       (λ w. after (s w) ∙ ap (replace (single v t)) (fine.idempotent w))
       (bound_at ∙ sym (after t ∙ ap (replace (single v t)) can.applied ∙ single-apart v t can.apart))
 
-  within_single : (x : ℕ) → n x ≡ true → IsWithin n (single v t x)
+  within_single : (x : ℕ) → n x ≡ true → IsOver n (single v t x)
   within_single x h = at (v == x)
     where
-      at : (b : Bool) → IsWithin n (if b then t else Var x)
+      at : (b : Bool) → IsOver n (if b then t else Var x)
       at true = can.within
       at false = replace-Var (cap n) x ∙ cap-inside n x h
 

@@ -1,23 +1,20 @@
 -- Variables below a number, by a test.
 use Rattle.std.proofs.Common.{◌≡◌, ℕ, ◌<◌, Bool, true, false, ◌&&◌, ◌||◌, ◌==◌, nat_lt, eq-eqb, All, List, [], ◌∷◌, ◌++◌, refl, sym, ap, subst, ◌∙◌, ◌↔◌}
 use Rattle.std.specs.List.{list_all, list_any, flat_map, zip, AllByRecursion}
+use Rattle.std.proofs.Math.Bool.{and-true}
 use Rattle.std.proofs.lemmas.Bool.{ltb-true, lt-ltb, and_parts, or_left, or_right}
 use Rattle.std.proofs.lemmas.List.Elements.{All-nil, All-cons, recursion_from_All}
-use Rattle.std.proofs.lemmas.List.Folds.{list_all-append, list_any-append}
+use Rattle.std.proofs.lemmas.List.Folds.{list_all-append}
 use Rattle.spl_terms.specs.declared.term.Symbol.{Symbol}
 use Rattle.spl_terms.specs.declared.term.Term.{Term, Var, App}
 use Rattle.spl_terms.specs.Terms.{term_variables}
 use Rattle.spl_terms.specs.TermLaws.{term_variables-Var, term_variables-App}
 use Rattle.spl_truth.specs.Unifiers.{occurs, HasVariablesBelow, HaveVariablesBelow}
-use Rattle.spl_truth.specs.OccurrenceLaws.{occurs-App, any_of_all, occurs_below}
+use Rattle.spl_truth.specs.OccurrenceLaws.{any-variables, occurs-App, any_of_all, occurs_below}
 use Rattle.unify.specs.Below.{has_variables_below, AllBelow, IsBelow, AreBelow, EquationsBelow}
 
-and_true : (b : Bool) → (b && true) ≡ b
-and_true true = refl
-and_true false = refl
-
 pub below-Var : (n v : ℕ) → has_variables_below n (Var v) ≡ nat_lt v n
-below-Var n v = ap (list_all (λ w. nat_lt w n)) (term_variables-Var v) ∙ and_true _
+below-Var n v = ap (list_all (λ w. nat_lt w n)) (term_variables-Var v) ∙ and-true _
 
 all-variables : (n : ℕ) (ts : List Term) → list_all (λ w. nat_lt w n) (flat_map term_variables ts) ≡ list_all (has_variables_below n) ts
 all-variables n [] = refl
@@ -56,15 +53,11 @@ below_from n t h = occurs_below n t h
 pub below_to : (n : ℕ) (t : Term) → IsBelow n t → HasVariablesBelow n t
 below_to n t h = all_from_any n (term_variables t) h
 
-any_in_all : (v : ℕ) (ts : List Term) → list_any (λ w. v == w) (flat_map term_variables ts) ≡ list_any (occurs v) ts
-any_in_all v [] = refl
-any_in_all v (t ∷ ts) = list_any-append (λ w. v == w) (term_variables t) (flat_map term_variables ts) ∙ ap (λ b. occurs v t || b) (any_in_all v ts)
-
 pub are_below_from : (n : ℕ) (ts : List Term) → HaveVariablesBelow n ts → AreBelow n ts
-are_below_from n ts h v o = any_of_all n v (flat_map term_variables ts) (recursion_from_All (λ w. w < n) (flat_map term_variables ts) h) (any_in_all v ts ∙ o)
+are_below_from n ts h v o = any_of_all n v (flat_map term_variables ts) (recursion_from_All (λ w. w < n) (flat_map term_variables ts) h) (any-variables v ts ∙ o)
 
 pub are_below_to : (n : ℕ) (ts : List Term) → AreBelow n ts → HaveVariablesBelow n ts
-are_below_to n ts h = all_from_any n (flat_map term_variables ts) (λ v o. h v (sym (any_in_all v ts) ∙ o))
+are_below_to n ts h = all_from_any n (flat_map term_variables ts) (λ v o. h v (sym (any-variables v ts) ∙ o))
 
 -- ---- the arguments of terms, side by side
 

@@ -6,7 +6,7 @@ use Rattle.std.proofs.lemmas.List.{map-append, take-map}
 use Rattle.std.proofs.lemmas.List.Folds.{list_any-append}
 use Rattle.std.proofs.lemmas.List.Sums.{sum_by-cons}
 use Rattle.std.specs.List.{list_any}
-use Rattle.std.proofs.lemmas.Bool.{eqb-true, false≢true, or_left, or_right}
+use Rattle.std.proofs.lemmas.Bool.{eqb-true, false≢true, or_left, or_right, or_parts}
 use Rattle.spl_terms.specs.declared.term.Symbol.{Symbol}
 use Rattle.spl_terms.specs.declared.term.Term.{Term, Var, App}
 use Rattle.spl_terms.specs.Terms.{symbol_eq, term_eq, term_symbols, replace}
@@ -85,16 +85,12 @@ found_as asked asked' inside inside' old new true to from same h = record {
 }
 found_as asked asked' inside inside' old new false to from same h = λ g a is. h g a (from g is)
 
-neither : (a b : Bool) → (a || b) ≡ false → (a ≡ false) × (b ≡ false)
-neither true b e = absurd (false≢true (sym e))
-neither false b e = (refl, e)
-
 pub found_both : (one other : (ℕ → Term) → Type 0) (inside inside' : ℕ → Bool) (old mid new : List (ℕ × Term)) (ok : Bool) → IsFound one inside old mid → FoundOrNot other inside' mid new ok → FoundOrNot (λ g. one g × other g) (λ v. inside v || inside' v) old new ok
 found_both one other inside inside' old mid new true h k = record {
   onward = λ g a is. k.onward g (h.onward g a is.0) is.1;
   old_kept = λ g a. h.old_kept g (k.old_kept g a);
   done = λ g a. (h.done g (k.old_kept g a), k.done g a);
-  others = λ v no. let p = neither _ _ no in k.others v p.1 ∙ h.others v p.0;
+  others = λ v no. let p = or_parts _ _ no in k.others v p.1 ∙ h.others v p.0;
 }
 found_both one other inside inside' old mid new false h k = λ g a is. k g (h.onward g a is.0) is.1
 

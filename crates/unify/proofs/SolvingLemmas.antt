@@ -2,6 +2,7 @@
 use Rattle.std.proofs.Common.{◌≡◌, ℕ, suc, ◌≤◌, ◌<◌, Bool, true, false, ◌&&◌, ◌==◌, if◌then◌else◌, eq-eqb, List, [], ◌∷◌, ◌++◌, length, map, Option, Some, None, refl, sym, ap, subst, ◌∙◌, arith}
 use Rattle.std.specs.List.{zip}
 use Rattle.std.proofs.lemmas.Bool.{eqb-true, false≢true, and_parts}
+use Rattle.std.proofs.lemmas.List.{length-map}
 use Rattle.std.proofs.lemmas.List.Sums.{sum_by-cons}
 use Rattle.spl_terms.specs.declared.term.Symbol.{Symbol}
 use Rattle.spl_terms.specs.declared.term.Term.{Term, Var, App, out-Term}
@@ -113,10 +114,6 @@ apart_applications f g ss ts e =
     ∙ ap (λ b. if b then trivial else (if symbol_eq f g && (length ss == length ts) then decompose (zip ss ts) else clash)) p
     ∙ ap (λ b. if b then decompose (zip ss ts) else clash) e
 
-pub length_map : (h : Term → Term) (ts : List Term) → length (map h ts) ≡ length ts
-length_map h [] = refl
-length_map h (t ∷ ts) = ap suc (length_map h ts)
-
 alike_zip : (s : ℕ → Term) → ((t : Term) → replace s (replace s t) ≡ replace s t) → (ss ts : List Term) (es : List (Term × Term)) → Alike s (zip ss ts ++ es) (zip (map (replace s) ss) (map (replace s) ts) ++ es)
 alike_zip s twice [] ts es = alike_self s es
 alike_zip s twice (x ∷ ss) [] es = alike_self s es
@@ -133,7 +130,7 @@ split_leads s twice a b f g ss ts p q heads many es r h = by_test (terms_eq (map
         let equal : replace s a ≡ replace s b = p ∙ (λ i. App (head i) (same i)) ∙ sym q in
         skips s (a, b) es r (equal_sides _ _ equal) (skipped_all s r es ss ts same h)
     by_test false e =
-        let long : (length (map (replace s) ss) == length (map (replace s) ts)) ≡ true = eq-eqb _ _ (length_map (replace s) ss ∙ many ∙ sym (length_map (replace s) ts)) in
+        let long : (length (map (replace s) ss) == length (map (replace s) ts)) ≡ true = eq-eqb _ _ (length-map ss (replace s) ∙ many ∙ sym (length-map ts (replace s))) in
         let one : (symbol_eq f g && terms_eq (map (replace s) ss) (map (replace s) ts)) ≡ false = rw (heads, e) in
         let two : (symbol_eq f g && (length (map (replace s) ss) == length (map (replace s) ts))) ≡ true = rw (heads, long) in
         splits s (a, b) es r (zip (map (replace s) ss) (map (replace s) ts))
@@ -197,8 +194,8 @@ module _ (vars : ℕ) (made : List (ℕ × Term)) (tri : IsTriangular vars made)
     fewer = fewer_by_one;
   }
 
-  one_more : (v : ℕ) (t : Term) (made' : List (ℕ × Term)) → v < vars → IsBelow vars t → IsFree made t → bound_to made v ≡ None → occurs v (replace (substitution made) t) ≡ false → made' ≡ (v, t) ∷ made → ((o : Option (ℕ → Term)) → Leads (substitution ((v, t) ∷ made)) es o → Leads (substitution made) ((l, r) ∷ es) o) → IsOneMore vars made ((l, r) ∷ es) made' es
-  one_more v t made' lt below_t free_t unbound apart is onward = record {
+  lengthened : (v : ℕ) (t : Term) (made' : List (ℕ × Term)) → v < vars → IsBelow vars t → IsFree made t → bound_to made v ≡ None → occurs v (replace (substitution made) t) ≡ false → made' ≡ (v, t) ∷ made → ((o : Option (ℕ → Term)) → Leads (substitution ((v, t) ∷ made)) es o → Leads (substitution made) ((l, r) ∷ es) o) → IsOneMore vars made ((l, r) ∷ es) made' es
+  lengthened v t made' lt below_t free_t unbound apart is onward = record {
     binding = (v, t);
     is = is;
     triangular = subst (IsTriangular vars) (sym is) (lt, below_t, apart, unbound, free_t, tri);
@@ -214,7 +211,7 @@ module _ (vars : ℕ) (made : List (ℕ × Term)) (tri : IsTriangular vars made)
 
   pub left_eliminated : (v : ℕ) → left ≡ Var v → (right ≡ Var v → ⊥) → (progress : Progress) (made' : List (ℕ × Term)) → Eliminated progress v right made made' → Progressed vars progress made ((l, r) ∷ es) made' es
   left_eliminated v p differ Reduced made' h = absurd h
-  left_eliminated v p differ Bound made' h = one_more v right made' (variable_left v p) below_r free_r (free_l v p) h.0 h.1
+  left_eliminated v p differ Bound made' h = lengthened v right made' (variable_left v p) below_r free_r (free_l v p) h.0 h.1
       (binds_left (substitution made) l r v (replace (substitution made) right) (sym is_l ∙ stays_variable vars made tri left v p free_l) (sym is_r) h.0 es)
   left_eliminated v p differ Failed made' h =
       fails_left (substitution made) l r v (replace (substitution made) right) (sym is_l ∙ stays_variable vars made tri left v p free_l) (sym is_r)
@@ -224,7 +221,7 @@ module _ (vars : ℕ) (made : List (ℕ × Term)) (tri : IsTriangular vars made)
   right_eliminated v f ss p q Reduced made' h = absurd h
   right_eliminated v f ss p q Bound made' h =
       let args = at_arguments made left f ss p in
-      one_more v left made' (variable_right v q) below_l free_l (free_r v q) h.0 h.1
+      lengthened v left made' (variable_right v q) below_l free_l (free_r v q) h.0 h.1
       (λ o k. binds_right (substitution made) l r v f (map (replace (substitution made)) ss) (sym is_l ∙ args) (sym is_r ∙ stays_variable vars made tri right v q free_r) (ap (occurs v) (sym args) ∙ h.0) es o (subst (λ u. Leads (bind v u (substitution made)) es o) args k))
   right_eliminated v f ss p q Failed made' h =
       let args = at_arguments made left f ss p in
@@ -232,7 +229,7 @@ module _ (vars : ℕ) (made : List (ℕ × Term)) (tri : IsTriangular vars made)
 
   pub heads_apart : (f g : Symbol) (ss ts sl tl : List Term) → left ≡ App f ss → right ≡ App g ts → sl ≡ ss → tl ≡ ts → (same : Bool) → same ≡ (symbol_eq f g && (length sl == length tl)) → same ≡ false → Leads (substitution made) ((l, r) ∷ es) None
   heads_apart f g ss ts sl tl p q a b same is differ =
-      let long : (length (map (replace (substitution made)) ss) == length (map (replace (substitution made)) ts)) ≡ (length sl == length tl) = (λ i. length_map (replace (substitution made)) ss i == length_map (replace (substitution made)) ts i) ∙ sym (λ i. length (a i) == length (b i)) in
+      let long : (length (map (replace (substitution made)) ss) == length (map (replace (substitution made)) ts)) ≡ (length sl == length tl) = (λ i. length-map ss (replace (substitution made)) i == length-map ts (replace (substitution made)) i) ∙ sym (λ i. length (a i) == length (b i)) in
       let args = at_arguments made left f ss p in
       let others = at_arguments made right g ts q in
       fails (substitution made) (l, r) es

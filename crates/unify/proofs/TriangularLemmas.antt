@@ -10,15 +10,15 @@ use Rattle.spl_truth.specs.Unifiers.{occurs, single, bind}
 use Rattle.spl_terms.specs.TermLaws.{term_induction, term_symbols-Var, replace-Var, replace-App, replace-itself}
 use Rattle.spl_truth.specs.InstanceLaws.{replace-replace, symbols-replace-App}
 use Rattle.spl_truth.specs.OccurrenceLaws.{no_application, agree, occurs-Var, occurs-App, occurs-self}
-use Rattle.spl_truth.specs.BindingLaws.{cap, IsWithin, IsFine, CanBind, cap-inside, within-replace, instance_at, single-apart, bind_fine, bound_at, at_first}
+use Rattle.spl_truth.specs.BindingLaws.{cap, IsOver, IsFine, CanBind, cap-inside, within-replace, instance_at, single-apart, bind_fine, bound_at, at_first}
 use Rattle.unify.specs.Below.{IsBelow}
-use Rattle.unify.specs.Bindings.{bound_to, substitution, IsFree, IsTriangular, one_more, rank, rank_of, rank_of_layer}
+use Rattle.unify.specs.Bindings.{bound_to, substitution, IsFree, IsTriangular, lengthened, rank, rank_of, rank_of_layer}
 
 -- the variables below a number
 abbrev pub under : ℕ → ℕ → Bool
 under vars v = nat_lt v vars
 
-pub within_below : (vars : ℕ) (t : Term) → IsBelow vars t → IsWithin (under vars) t
+pub within_below : (vars : ℕ) (t : Term) → IsBelow vars t → IsOver (under vars) t
 within_below vars t h = agree (cap (under vars)) Var t (λ x o. cap-inside (under vars) x (lt-ltb x vars (h x o))) ∙ replace-itself t
 
 -- ---- what the bindings stand for
@@ -93,54 +93,54 @@ rank_of-Var made v = ap (rank_of_layer made) (outs-Var v)
 rank_of-App : (made : List (ℕ × Term)) (f : Symbol) (ts : List Term) → rank_of made (App f ts) ≡ 0
 rank_of-App made f ts = ap (rank_of_layer made) (outs-App f ts)
 
-one_more-less : (m n : ℕ) → m < n → one_more m < one_more n
-one_more-less zero zero h = absurd (omega arith)
-one_more-less zero (suc n) h = omega arith
-one_more-less (suc m) zero h = absurd (omega arith)
-one_more-less (suc m) (suc n) h = omega arith
+lengthened-less : (m n : ℕ) → m < n → lengthened m < lengthened n
+lengthened-less zero zero h = absurd (omega arith)
+lengthened-less zero (suc n) h = omega arith
+lengthened-less (suc m) zero h = absurd (omega arith)
+lengthened-less (suc m) (suc n) h = omega arith
 
-one_more-above : (m : ℕ) → 0 < m → 1 < one_more m
-one_more-above zero h = absurd (omega arith)
-one_more-above (suc m) h = omega arith
+lengthened-above : (m : ℕ) → 0 < m → 1 < lengthened m
+lengthened-above zero h = absurd (omega arith)
+lengthened-above (suc m) h = omega arith
 
 rank_unbound : (made : List (ℕ × Term)) (v : ℕ) → bound_to made v ≡ None → rank made v ≡ 0
 rank_unbound [] v e = refl
 rank_unbound (b ∷ bs) v e = by_test (v == b.0) e (rank_unbound bs v)
   where
-    by_test : (c : Bool) → (if c then Some b.1 else bound_to bs v) ≡ None → (bound_to bs v ≡ None → rank bs v ≡ 0) → (if c then 1 else one_more (rank bs v)) ≡ 0
+    by_test : (c : Bool) → (if c then Some b.1 else bound_to bs v) ≡ None → (bound_to bs v ≡ None → rank bs v ≡ 0) → (if c then 1 else lengthened (rank bs v)) ≡ 0
     by_test true h earlier = absurd (cc)
-    by_test false h earlier = ap one_more (earlier h)
+    by_test false h earlier = ap lengthened (earlier h)
 
 rank_new : (vars : ℕ) (b : ℕ × Term) (bs : List (ℕ × Term)) → IsTriangular vars (b ∷ bs) → (t : Term) → b.1 ≡ t → rank_of (b ∷ bs) t ≡ 0
 rank_new vars b bs h = term_induction (λ t. b.1 ≡ t → rank_of (b ∷ bs) t ≡ 0)
     (λ w is. rank_of-Var (b ∷ bs) w ∙ by_test w is (h.4 w is) (w == b.0) refl)
     (λ f ts _ is. rank_of-App (b ∷ bs) f ts)
   where
-    by_test : (w : ℕ) → b.1 ≡ Var w → bound_to bs w ≡ None → (c : Bool) → (w == b.0) ≡ c → (if c then 1 else one_more (rank bs w)) ≡ 0
+    by_test : (w : ℕ) → b.1 ≡ Var w → bound_to bs w ≡ None → (c : Bool) → (w == b.0) ≡ c → (if c then 1 else lengthened (rank bs w)) ≡ 0
     by_test w is free true same =
         let e : replace (substitution bs) b.1 ≡ Var w = ap (replace (substitution bs)) is ∙ replace-Var (substitution bs) w ∙ (stands vars bs h.5).1 w free in
         absurd (false≢true (sym h.2 ∙ ap (occurs b.0) e ∙ ap (λ x. occurs x (Var w)) (sym (eqb-true w b.0 same)) ∙ occurs-self w))
-    by_test w is free false differ = ap one_more (rank_unbound bs w free)
+    by_test w is free false differ = ap lengthened (rank_unbound bs w free)
 
-rank_later : (b : ℕ × Term) (bs : List (ℕ × Term)) (n w : ℕ) (c : Bool) → rank bs w < n → (if c then 1 else one_more (rank bs w)) < one_more n
-rank_later b bs n w true less = one_more-above n (omega arith)
-rank_later b bs n w false less = one_more-less (rank bs w) n less
+rank_later : (b : ℕ × Term) (bs : List (ℕ × Term)) (n w : ℕ) (c : Bool) → rank bs w < n → (if c then 1 else lengthened (rank bs w)) < lengthened n
+rank_later b bs n w true less = lengthened-above n (omega arith)
+rank_later b bs n w false less = lengthened-less (rank bs w) n less
 
-later : (b : ℕ × Term) (bs : List (ℕ × Term)) (n : ℕ) (u : Term) → rank_of bs u < n → rank_of (b ∷ bs) u < one_more n
+later : (b : ℕ × Term) (bs : List (ℕ × Term)) (n : ℕ) (u : Term) → rank_of bs u < n → rank_of (b ∷ bs) u < lengthened n
 later b bs n =
-    term_induction (λ u. rank_of bs u < n → rank_of (b ∷ bs) u < one_more n)
+    term_induction (λ u. rank_of bs u < n → rank_of (b ∷ bs) u < lengthened n)
     (λ w less.
     let k = rank_of-Var bs w in
     let m = rank_of-Var (b ∷ bs) w in
     let r = rank_later b bs n w (w == b.0) (omega (arith, k, less)) in
     omega (arith, m, r))
-    (λ f ts _ less. let k = rank_of-App (b ∷ bs) f ts in let m = one_more-above n (omega arith) in omega (arith, k, m))
+    (λ f ts _ less. let k = rank_of-App (b ∷ bs) f ts in let m = lengthened-above n (omega arith) in omega (arith, k, m))
 
 pub rank_less : (vars : ℕ) (made : List (ℕ × Term)) → IsTriangular vars made → (v : ℕ) (t : Term) → bound_to made v ≡ Some t → rank_of made t < rank made v
 rank_less vars [] h v t e = absurd (cc)
 rank_less vars (b ∷ bs) h v t e = by_test (v == b.0) e (rank_less vars bs h.5 v t)
   where
-    by_test : (c : Bool) → (if c then Some b.1 else bound_to bs v) ≡ Some t → (bound_to bs v ≡ Some t → rank_of bs t < rank bs v) → rank_of (b ∷ bs) t < (if c then 1 else one_more (rank bs v))
+    by_test : (c : Bool) → (if c then Some b.1 else bound_to bs v) ≡ Some t → (bound_to bs v ≡ Some t → rank_of bs t < rank bs v) → rank_of (b ∷ bs) t < (if c then 1 else lengthened (rank bs v))
     by_test true here earlier = let r : b.1 ≡ t = cc in let k = rank_new vars b bs h t r in omega (arith, k)
     by_test false here earlier = later b bs (rank bs v) t (earlier here)
 

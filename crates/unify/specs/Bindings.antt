@@ -62,14 +62,15 @@ IsTriangular vars (b ∷ bs) =
 
 -- ---- how many variables can stand in a row, each bound to the next
 
-abbrev pub one_more : ℕ → ℕ
-one_more zero = zero
-one_more (suc n) = suc (suc n)
+-- a row of variables with one more before it, where there is a row
+abbrev pub lengthened : ℕ → ℕ
+lengthened zero = zero
+lengthened (suc n) = suc (suc n)
 
 -- a variable is bound to one that is bound later, if at all
 abbrev pub rank : List (ℕ × Term) → ℕ → ℕ
 rank [] v = 0
-rank (b ∷ bs) v = if v == b.0 then 1 else one_more (rank bs v)
+rank (b ∷ bs) v = if v == b.0 then 1 else lengthened (rank bs v)
 
 abbrev pub rank_of_layer : List (ℕ × Term) → Term-F Term → ℕ
 rank_of_layer made (layer.Var v) = rank made v

@@ -75,7 +75,10 @@ pub fn match_terms<'a>(
     found: &mut Bindings<'a>,
 ) -> Result<bool, AllocError>
     requires { HaveVariablesBelow found.old.0 patterns.now }
-    ensures found { IfOk result (λ yes. FoundOrNot (λ g. map (replace g) patterns.now ≡ targets.now) (λ v. list_any (occurs v) patterns.now) found.old.1 found.new.1 yes) }
+    ensures found { IfOk result (λ yes. FoundOrNot
+        (λ g. map (replace g) patterns.now ≡ targets.now)
+        (λ v. list_any (occurs v) patterns.now)
+        found.old.1 found.new.1 yes) }
     ensures extended { IsExtended found.old found.new }
 {
     if patterns.len() != targets.len() {
@@ -99,7 +102,9 @@ pub fn match_into(
     vars: u32,
 ) -> Result<Option<Subst>, AllocError>
     requires { HasVariablesBelow vars pattern.now }
-    ensures { IfOk result (λ found. MatchOption found (HasNoMatcher pattern.now target.now) (λ s. IsMatcher vars pattern.now target.now s.terms)) }
+    ensures { IfOk result (λ found. MatchOption found
+        (HasNoMatcher pattern.now target.now)
+        (λ s. IsMatcher vars pattern.now target.now s.terms)) }
 {
     if !covers(pattern, target) {
         return Ok(None);
@@ -121,7 +126,9 @@ pub fn match_arguments(
     vars: u32,
 ) -> Result<Option<Subst>, AllocError>
     requires { HaveVariablesBelow vars patterns.now }
-    ensures { (head : Symbol) → IfOk result (λ found. MatchOption found (HasNoMatcher (App head patterns.now) (App head targets.now)) (λ s. IsMatcher vars (App head patterns.now) (App head targets.now) s.terms)) }
+    ensures { (head : Symbol) → IfOk result (λ found. MatchOption found
+        (HasNoMatcher (App head patterns.now) (App head targets.now))
+        (λ s. IsMatcher vars (App head patterns.now) (App head targets.now) s.terms)) }
 {
     if !all_cover(patterns, targets) {
         return Ok(None);

@@ -76,7 +76,9 @@ fn take_equation<'a>(
 ) -> Result<Progress, AllocError>
     requires triangular { IsTriangular bindings.old.0 bindings.old.1 }
     requires below { EquationsBelow bindings.old.0 ((left.now, right.now) ∷ equations.old) }
-    ensures progress { IfOk result (λ progress. Progressed bindings.old.0 progress bindings.old.1 ((left.now, right.now) ∷ equations.old) bindings.new.1 equations.new) }
+    ensures progress { IfOk result (λ progress. Progressed bindings.old.0 progress
+        bindings.old.1 ((left.now, right.now) ∷ equations.old)
+        bindings.new.1 equations.new) }
     ensures as_many { bindings.new.0 ≡ bindings.old.0 }
 {
     let left = dereferenced(bindings, left);
@@ -246,8 +248,12 @@ pub fn unify_arguments_bound<'a>(
 ) -> Result<Option<Bindings<'a>>, AllocError>
     requires left_below { HaveVariablesBelow vars left.now }
     requires right_below { HaveVariablesBelow vars right.now }
-    ensures exact { (head : Symbol) → IfOk result (λ found. MatchOption found (unifier vars (App head left.now) (App head right.now) ≡ None) (StandForUnifier vars (App head left.now) (App head right.now))) }
-    ensures general { (head : Symbol) → IfOk result (λ found. MatchOption found (HasNoUnifier (App head left.now) (App head right.now)) (λ u. IsMostGeneral (App head left.now) (App head right.now) (substitution u.1))) }
+    ensures exact { (head : Symbol) → IfOk result (λ found. MatchOption found
+        (unifier vars (App head left.now) (App head right.now) ≡ None)
+        (StandForUnifier vars (App head left.now) (App head right.now))) }
+    ensures general { (head : Symbol) → IfOk result (λ found. MatchOption found
+        (HasNoUnifier (App head left.now) (App head right.now))
+        (λ u. IsMostGeneral (App head left.now) (App head right.now) (substitution u.1))) }
 {
     laws::steps_lead_to_unifier();
     laws::unifier_is_most_general();
@@ -269,8 +275,11 @@ pub fn unify_arguments(
 ) -> Result<Option<Subst>, AllocError>
     requires left_below { HaveVariablesBelow vars left.now }
     requires right_below { HaveVariablesBelow vars right.now }
-    ensures exact { (head : Symbol) → IfOk result (λ found. option_map (λ s. s.terms) found ≡ unifier vars (App head left.now) (App head right.now)) }
-    ensures general { (head : Symbol) → IfOk result (λ found. MatchOption found (HasNoUnifier (App head left.now) (App head right.now)) (λ s. IsMostGeneral (App head left.now) (App head right.now) (entry s.terms))) }
+    ensures exact { (head : Symbol) → IfOk result (λ found.
+        option_map (λ s. s.terms) found ≡ unifier vars (App head left.now) (App head right.now)) }
+    ensures general { (head : Symbol) → IfOk result (λ found. MatchOption found
+        (HasNoUnifier (App head left.now) (App head right.now))
+        (λ s. IsMostGeneral (App head left.now) (App head right.now) (entry s.terms))) }
 {
     let Some(bindings) = unify_arguments_bound(alloc, left, right, vars)? else {
         return Ok(None);
