@@ -12,7 +12,7 @@ use Rattle.spl_terms.specs.declared.clause.Part.TheVariants.{Constraint, Anteced
 use Rattle.spl_terms.specs.declared.clause.Clause.{Clause}
 use Rattle.spl_terms.specs.Terms.{replace_step, replace}
 use Rattle.spl_terms.specs.Clauses.{is_same, added, distinct, with_atom, at_lists, replace_in_atom, replace_in, number_in, renumbered, in_order}
-use Rattle.spl_terms.proofs.TermLemmas.{fold-App}
+use Rattle.spl_terms.specs.TermLaws.{fold-App}
 use Rattle.spl_symbols.specs.Symbols.{Declared}
 use Rattle.dfg_tokens.specs.declared.token.Token.{Token}
 use Rattle.dfg_reader.specs.declared.fault.InputError.{InputError}

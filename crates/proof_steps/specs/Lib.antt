@@ -4,3 +4,4 @@ pub mod Steps
 pub mod Parents
 pub mod Checked
 pub mod Covering
+pub mod StepLaws

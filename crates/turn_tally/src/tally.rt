@@ -59,7 +59,8 @@ impl Tally {
     /// Appends an entry. Where there is no memory for it the tally is unchanged.
     pub fn append(&mut self, seat: u64, number: u64) -> Result<(), AllocError>
         requires limit { number ≤ self.old.limit }
-        ensures ok { OnOk result (self.new ≡ record self.old { entries = self.old.entries ++ tally_entry seat number ∷ [] }) }
+        ensures ok { OnOk result (self.new
+            ≡ record self.old { entries = self.old.entries ++ tally_entry seat number ∷ [] }) }
         ensures err { OnErr result (self.new ≡ self.old) }
         ensures list { Appends seat_of seat self.old.entries self.new.entries }
     {

@@ -128,7 +128,8 @@ pub fn tally_by_turns<R: Threads + Wait + Sync>(
 ) -> Result<Tally, AllocError>
     requires some { 0 < workers }
     ensures limit { IfOk result (λ t. t.limit ≡ turns) }
-    ensures entries { IfOk result (λ t. (k : ℕ) → 0 < k → k ≤ workers → entries_of seat_of k t.entries ≡ entries_upto k turns) }
+    ensures entries { IfOk result (λ t. (k : ℕ) → 0 < k → k ≤ workers
+        → entries_of seat_of k t.entries ≡ entries_upto k turns) }
     ensures count { IfOk result (λ t. length t.entries ≡ workers * turns) }
 {
     let Ok((cell, seats)) = TurnCell::new(alloc, Tally::new(alloc, u64::from(turns)), workers)
