@@ -21,7 +21,7 @@ use Rattle.case_journal.specs.declared.event.Event.TheVariants.{Choose, Publish,
 use Rattle.case_journal.specs.Journal.{Setting, nodes, nodes_of, ledger, steps, lines_of, input_lines}
 use Rattle.case_journal.specs.Paths.{stem, on_path, branch, branch_by, branch_to, subject}
 use Rattle.case_journal.specs.Facts.{lists, listed, worked, split, chosen, chosen_by, chooses_at, before_choice}
-use Rattle.case_journal.specs.Legal.{IsAsked, IsLegalJournal, IsPublishable, IsSplittable, IsInferred, IsClosing, IsPremise, IsChild, case_step, assume, assume_steps, negations}
+use Rattle.case_journal.specs.Legal.{IsAsked, IsLegalJournal, IsPublishable, IsSplittable, IsInferred, IsClosing, IsPremise, IsChild, case_step, assume, assume_steps, negation_steps}
 use Rattle.case_journal.specs.Closing.{published, IsAssumedAt}
 use Rattle.case_journal.specs.ListLaws.{get_left, get_right, numbered_get}
 use Rattle.case_journal.specs.PlaceLaws.{claimed_within, one_line}
@@ -258,12 +258,12 @@ numbered_new xs ys i k e = let z : i - 1 ≡ length xs + k = omega arith in numb
 first_step : (s : Setting) (past : List Entry) (w node : ℕ) (lines : List Line) (put_off : List Bool) → (p : IsSplittable s past w node lines put_off) → (k : ℕ) (l : Line) → slice_get lines k ≡ Some l → slice_get (assume_steps p.clause p.parts) k ≡ Some l.step
 first_step s past w node lines put_off p k l h = ap (λ xs. slice_get xs k) (sym p.steps) ∙ (slice_get-map (λ x. x.step) lines k ∙ ap (option_map (λ x. x.step)) h)
 
-negated_later : (clause k n j : ℕ) (step : Step) → slice_get (negations clause k n) j ≡ Some step → (o : Option ℕ) × (step ≡ assume clause 2 o)
+negated_later : (clause k n j : ℕ) (step : Step) → slice_get (negation_steps clause k n) j ≡ Some step → (o : Option ℕ) × (step ≡ assume clause 2 o)
 negated_later clause k zero j step h = cc
 negated_later clause k (suc n) zero step h = (Some k, cc)
 negated_later clause k (suc n) (suc j) step h = negated_later clause (k + 1) n j step h
 
-later_step : (b : Bool) (clause n j : ℕ) (step : Step) → slice_get (cond b (negations clause 0 n) []) j ≡ Some step → (o : Option ℕ) × (step ≡ assume clause 2 o)
+later_step : (b : Bool) (clause n j : ℕ) (step : Step) → slice_get (cond b (negation_steps clause 0 n) []) j ≡ Some step → (o : Option ℕ) × (step ≡ assume clause 2 o)
 later_step true clause n j step h = negated_later clause 0 n j step h
 later_step false clause n j step h = cc
 

@@ -16,7 +16,7 @@ use Rattle.case_journal.specs.declared.event.Entry.{Entry}
 use Rattle.case_journal.specs.declared.event.Event.{Event}
 use Rattle.case_journal.specs.declared.event.Event.TheVariants.{Publish, Split}
 use Rattle.case_journal.specs.Journal.{Setting, input_line, input_lines, lines_of, ledger, AreSmall}
-use Rattle.case_journal.specs.Legal.{assume, negations, assume_steps, IsAsked, IsLegalJournal, IsSplittable}
+use Rattle.case_journal.specs.Legal.{assume, negation_steps, assume_steps, IsAsked, IsLegalJournal, IsSplittable}
 use Rattle.case_journal.specs.ListLaws.{get_more, get_left, get_right}
 
 pub numbered_more : {A : Type 0} (xs ys : List A) (m : ℕ) (x : A) → numbered xs m ≡ Some x → numbered (xs ++ ys) m ≡ Some x
@@ -41,12 +41,12 @@ pub record IsAssume (clause : ℕ) (step : Step) : Type 0 where
   pub negated : Option ℕ
   pub is : step ≡ assume clause side negated
 
-negations_assume : (clause k n j : ℕ) (step : Step) → slice_get (negations clause k n) j ≡ Some step → IsAssume clause step
+negations_assume : (clause k n j : ℕ) (step : Step) → slice_get (negation_steps clause k n) j ≡ Some step → IsAssume clause step
 negations_assume clause k zero j step h = cc
 negations_assume clause k (suc n) zero step h = record { side = 2; negated = Some k; is = cc }
 negations_assume clause k (suc n) (suc j) step h = negations_assume clause (k + 1) n j step h
 
-optional_assume : (b : Bool) (clause n j : ℕ) (step : Step) → slice_get (cond b (negations clause 0 n) []) j ≡ Some step → IsAssume clause step
+optional_assume : (b : Bool) (clause n j : ℕ) (step : Step) → slice_get (cond b (negation_steps clause 0 n) []) j ≡ Some step → IsAssume clause step
 optional_assume true clause n j step h = negations_assume clause 0 n j step h
 optional_assume false clause n j step h = cc
 

@@ -164,13 +164,13 @@ abbrev pub assume : ℕ → ℕ → Option ℕ → Step
 assume clause side negated = record { rule = Assume side negated; parents = clause ∷ [] }
 
 -- the negations of the first n atoms of the left part, on the right side
-abbrev pub negations : ℕ → ℕ → ℕ → List Step
-negations clause k zero = []
-negations clause k (suc n) = assume clause 2 (Some k) ∷ negations clause (k + 1) n
+abbrev pub negation_steps : ℕ → ℕ → ℕ → List Step
+negation_steps clause k zero = []
+negation_steps clause k (suc n) = assume clause 2 (Some k) ∷ negation_steps clause (k + 1) n
 
 -- what is assumed where the clause is split: the left part; the right part, and where the left part has no variables the negation of each of its atoms
 abbrev pub assume_steps : ℕ → Parted → List Step
-assume_steps clause parts = assume clause 1 None ∷ assume clause 2 None ∷ (if parts.left_ground then negations clause 0 (length (atoms_of parts.left)) else [])
+assume_steps clause parts = assume clause 1 None ∷ assume clause 2 None ∷ (if parts.left_ground then negation_steps clause 0 (length (atoms_of parts.left)) else [])
 
 -- all that a Split asks but that the counted steps stay within the limit
 pub record IsSplittable (s : Setting) (past : List Entry) (w node : ℕ) (lines : List Line) (put_off : List Bool) : Type 0 where

@@ -6,6 +6,7 @@ pub mod Ending
 pub mod Legal
 pub mod Closing
 pub mod Symbols
+pub mod FactLaws
 pub mod ListLaws
 pub mod PlaceLaws
 pub mod PathLaws

@@ -15,7 +15,7 @@ use Rattle.case_journal.specs.declared.event.Entry.{Entry}
 use Rattle.case_journal.specs.Journal.{Setting, ledger, steps}
 use Rattle.case_journal.specs.Picking.{is_passive}
 use Rattle.case_queue.specs.declared.queue.CaseQueue.{CaseQueue}
-use Rattle.case_queue.specs.Queues.{HasFirst, HasQueue, HasPassive, IsPut, PutsPassive, IsEntry, IsTop, by_weight, entries}
+use Rattle.case_queue.specs.Queues.{HasFirst, HasQueue, HasPassive, IsPut, PutsPassive, IsEntry, IsTop, lighter_first, entries}
 use Rattle.case_queue.specs.LineLaws.{numbered_some, numbered_once}
 
 -- after one more clause, which is not passive
@@ -75,13 +75,13 @@ first_more s past m n old new one h (inr p) = subst (HasFirst s past m n) (sym p
 pub record HasThese (s : Setting) (past : List Entry) (m : ℕ) (numbers : List ℕ) (count : ℕ) (q : CaseQueue) : Type 0 where
   pub complete : (k i : ℕ) (l : Line) → k < count → slice_get numbers k ≡ Some i → is_passive s past m i ≡ true → numbered (ledger s past) i ≡ Some l → Contains (entries q) (clause_symbols l.stated.clause, i)
   pub sized : All (IsEntry s past) (entries q)
-  pub ordered : IsHeap by_weight (heap_items q.lightest)
+  pub ordered : IsHeap lighter_first (heap_items q.lightest)
   pub some : 1 ≤ q.oldest
   pub within : q.oldest ≤ steps s past + 1
   pub older : (k i : ℕ) → k < count → slice_get numbers k ≡ Some i → is_passive s past m i ≡ true → q.oldest ≤ i
 
 -- before the first of them
-pub these_none : (s : Setting) (past : List Entry) (m : ℕ) (numbers : List ℕ) (q : CaseQueue) → heap_items q.lightest ≡ [] → IsHeap by_weight (heap_items q.lightest) → 1 ≤ q.oldest → q.oldest ≤ steps s past + 1 → HasThese s past m numbers 0 q
+pub these_none : (s : Setting) (past : List Entry) (m : ℕ) (numbers : List ℕ) (q : CaseQueue) → heap_items q.lightest ≡ [] → IsHeap lighter_first (heap_items q.lightest) → 1 ≤ q.oldest → q.oldest ≤ steps s past + 1 → HasThese s past m numbers 0 q
 these_none s past m numbers q e h one high = record {
   complete = λ k i l less. absurd (omega (arith, less));
   sized = subst (λ xs. All (IsEntry s past) (map (λ x. x.0) xs)) (sym e) (All-nil (IsEntry s past));
@@ -163,7 +163,7 @@ in_rest x xs y (suc k, less, is) = inr (k, omega (arith, less), is)
 
 -- after a clause that is not passive was dropped
 pub first_drops : (s : Setting) (past : List Entry) (m count : ℕ) (q : CaseQueue) (x : Reverse (ℕ × ℕ)) (heap : BinaryHeap (Reverse (ℕ × ℕ)) Global) → HasFirst s past m count q
-    → is_passive s past m x.0.1 ≡ false → IsPermutation (heap_items q.lightest) (x ∷ heap_items heap) → IsHeap by_weight (heap_items heap)
+    → is_passive s past m x.0.1 ≡ false → IsPermutation (heap_items q.lightest) (x ∷ heap_items heap) → IsHeap lighter_first (heap_items heap)
     → HasFirst s past m count (record { lightest = heap; oldest = q.oldest })
 first_drops s past m count q x heap h out moves order =
     let p = IsPermutation-map (λ (y : Reverse (ℕ × ℕ)). y.0) (heap_items q.lightest) (x ∷ heap_items heap) moves in
@@ -183,7 +183,7 @@ first_drops s past m count q x heap h out moves order =
 -- after a pop of a top that is not passive
 pub first_pops : (s : Setting) (past : List Entry) (m count n : ℕ) (q : CaseQueue) (r : Option (Reverse (ℕ × ℕ))) (heap : BinaryHeap (Reverse (ℕ × ℕ)) Global) → HasFirst s past m count q → IsTop q n
     → is_passive s past m n ≡ false → 0 < heap_len q.lightest → IfSome r (λ x. x ≡ slice_index_or (heap_items q.lightest) 0 x) → IfSome r (λ x. IsPermutation (heap_items q.lightest) (x ∷ heap_items heap))
-    → IfSome r (λ x. PopsGreatest by_weight (heap_items q.lightest) x (heap_items heap)) → IfNone r (heap_len q.lightest ≡ 0) → HasFirst s past m count (record { lightest = heap; oldest = q.oldest })
+    → IfSome r (λ x. PopsGreatest lighter_first (heap_items q.lightest) x (heap_items heap)) → IfNone r (heap_len q.lightest ≡ 0) → HasFirst s past m count (record { lightest = heap; oldest = q.oldest })
 first_pops s past m count n q None heap h t out some top moves order none = absurd (omega (arith, some, none))
 first_pops s past m count n q (Some x) heap h t out some top moves order none =
     let e : x ≡ t.first = top ∙ ap (λ xs. slice_index_or xs 0 x) t.is in

@@ -12,7 +12,7 @@ use Rattle.case_journal.specs.declared.event.Entry.{Entry}
 use Rattle.case_journal.specs.Journal.{Setting, ledger, steps}
 use Rattle.case_journal.specs.Picking.{is_passive, weighed}
 use Rattle.case_queue.specs.declared.queue.CaseQueue.{CaseQueue}
-use Rattle.case_queue.specs.Queues.{HasFirst, HasQueue, IsEntry, IsTop, by_weight, entries, best_by}
+use Rattle.case_queue.specs.Queues.{HasFirst, HasQueue, IsEntry, IsTop, lighter_first, entries, best_by}
 use Rattle.case_queue.specs.LineLaws.{numbered_within, numbered_once}
 use Rattle.case_queue.proofs.Best.{IsFirstTo, best_is, best_none}
 
@@ -39,10 +39,10 @@ lighter_than n i l k same h = elim (not_less (clause_symbols k.stated.clause) i 
 ]
 
 -- no pair of the heap is greater than its top
-greatest_of : (q : CaseQueue) (n : ℕ) → IsHeap by_weight (heap_items q.lightest) → (t : IsTop q n) → All (λ e. is_lt (ordering_then (nat_cmp e.0 t.first.0.0) (nat_cmp e.1 t.first.0.1)) ≡ false) (entries q)
+greatest_of : (q : CaseQueue) (n : ℕ) → IsHeap lighter_first (heap_items q.lightest) → (t : IsTop q n) → All (λ e. is_lt (ordering_then (nat_cmp e.0 t.first.0.0) (nat_cmp e.1 t.first.0.1)) ≡ false) (entries q)
 greatest_of q n order t =
     All-map (λ e. is_lt (ordering_then (nat_cmp e.0 t.first.0.0) (nat_cmp e.1 t.first.0.1)) ≡ false) (λ (x : Reverse (ℕ × ℕ)). x.0) (heap_items q.lightest)
-    (All-from_recursion (λ x. lt_by_cmp by_weight t.first x ≡ false) (heap_items q.lightest) (t.greatest order))
+    (All-from_recursion (λ x. lt_by_cmp lighter_first t.first x ≡ false) (heap_items q.lightest) (t.greatest order))
 
 pub lightest_is : (s : Setting) (past : List Entry) (m n : ℕ) (q : CaseQueue) → HasQueue s past m q → IsTop q n → is_passive s past m n ≡ true → best_by false s past m ≡ Some n
 lightest_is s past m n q h t passes =

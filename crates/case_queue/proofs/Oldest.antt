@@ -1,6 +1,6 @@
 -- The oldest passive clause is the best by age.
 use Rattle.std.proofs.Common.{◌≡◌, ◌∙◌, ℕ, ◌<◌, ◌≤◌, inl, inr, true, false, nat_lt, List, Some, None, sym, ap, arith}
-use Rattle.std.proofs.lemmas.Bool.{cases_lt}
+use Rattle.std.proofs.lemmas.Bool.{cases_lt, lt-ltb}
 use Rattle.std.proofs.lemmas.Bool.Decides.{nat_tests}
 use Rattle.proof_steps.specs.declared.step.Line.{Line}
 use Rattle.case_journal.specs.declared.event.Entry.{Entry}
@@ -10,12 +10,9 @@ use Rattle.case_queue.specs.Queues.{best_by}
 use Rattle.case_queue.specs.LineLaws.{numbered_some, numbered_within, numbered_there, numbered_once}
 use Rattle.case_queue.proofs.Best.{IsFirstTo, best_is, best_none}
 
-less_is : (n i : ℕ) → n < i → nat_lt n i ≡ true
-less_is n i h = grind (arith, nat_tests)
-
 older_than : (n i : ℕ) (l k : Line) → (i ≡ n → k ≡ l) → n ≤ i → IsFirstTo true (weighed n l) (weighed i k)
 older_than n i l k same high = elim (cases_lt n i) [
-  | inl more ↦ inr (less_is n i more)
+  | inl more ↦ inr (lt-ltb n i more)
   | inr rest ↦ let e : i ≡ n = omega (arith, high, rest) in inl (ap (λ j. weighed j k) e ∙ ap (weighed n) (same e))
 ]
 

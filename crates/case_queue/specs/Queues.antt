@@ -18,8 +18,8 @@ abbrev pub entries : CaseQueue → List (ℕ × ℕ)
 entries q = map (λ x. x.0) (heap_items q.lightest)
 
 -- the greatest has the fewest symbols, and of these the smallest number
-abbrev pub by_weight : Reverse (ℕ × ℕ) → Reverse (ℕ × ℕ) → Ordering
-by_weight x y = ordering_then (nat_cmp y.0.0 x.0.0) (nat_cmp y.0.1 x.0.1)
+abbrev pub lighter_first : Reverse (ℕ × ℕ) → Reverse (ℕ × ℕ) → Ordering
+lighter_first x y = ordering_then (nat_cmp y.0.0 x.0.0) (nat_cmp y.0.1 x.0.1)
 
 -- the pair has the symbols and the number of a clause of the ledger
 pub record IsEntry (s : Setting) (past : List Entry) (e : ℕ × ℕ) : Type 0 where
@@ -31,7 +31,7 @@ pub record IsEntry (s : Setting) (past : List Entry) (e : ℕ × ℕ) : Type 0 w
 pub record HasFirst (s : Setting) (past : List Entry) (m count : ℕ) (q : CaseQueue) : Type 0 where
   pub complete : (i : ℕ) (l : Line) → i ≤ count → is_passive s past m i ≡ true → numbered (ledger s past) i ≡ Some l → Contains (entries q) (clause_symbols l.stated.clause, i)
   pub sized : All (IsEntry s past) (entries q)
-  pub ordered : IsHeap by_weight (heap_items q.lightest)
+  pub ordered : IsHeap lighter_first (heap_items q.lightest)
   pub some : 1 ≤ q.oldest
   pub within : q.oldest ≤ count + 1
   pub older : (i : ℕ) → 1 ≤ i → i < q.oldest → is_passive s past m i ≡ false
@@ -50,7 +50,7 @@ pub record IsPut (s : Setting) (past : List Entry) (n : ℕ) (old new : CaseQueu
   pub line : Line
   pub found : numbered (ledger s past) n ≡ Some line
   pub added : IsPermutation ((clause_symbols line.stated.clause, n) ∷ entries old) (entries new)
-  pub ordered : IsHeap by_weight (heap_items old.lightest) → IsHeap by_weight (heap_items new.lightest)
+  pub ordered : IsHeap lighter_first (heap_items old.lightest) → IsHeap lighter_first (heap_items new.lightest)
   pub oldest : new.oldest ≡ min old.oldest n
 
 -- clause n was put into the queue where it is passive at m, else nothing was
@@ -67,4 +67,4 @@ pub record IsTop (q : CaseQueue) (n : ℕ) : Type 0 where
   pub rest : List (Reverse (ℕ × ℕ))
   pub is : heap_items q.lightest ≡ first ∷ rest
   pub number : n ≡ first.0.1
-  pub greatest : IsHeap by_weight (heap_items q.lightest) → IsUpperBound by_weight first (heap_items q.lightest)
+  pub greatest : IsHeap lighter_first (heap_items q.lightest) → IsUpperBound lighter_first first (heap_items q.lightest)

@@ -1,5 +1,6 @@
 -- What makes the two events legal.
 use Rattle.std.proofs.Common.{◌≡◌, inr, ℕ, zero, suc, ◌+◌, ◌<◌, ◌≤◌, Bool, true, false, List, [], ◌∷◌, length, map, replicate, Some, None, refl, sym, ◌∙◌, subst, arith}
+use Rattle.spl_terms.specs.ListLaws.{numbered-there}
 use Rattle.proof_steps.specs.declared.step.Line.{Line}
 use Rattle.proof_steps.specs.Parts.{Parted, parts_of}
 use Rattle.proof_steps.specs.Steps.{numbered}
@@ -12,15 +13,6 @@ use Rattle.case_journal.specs.Legal.{assume_steps, IsLegal, IsLegalJournal, IsSe
 use Rattle.case_journal.specs.ListedLaws.{listed_within}
 use Rattle.clause_splitting.specs.Splitting.{AreConcluded}
 use Rattle.clause_splitting.proofs.Lines.{counted_lines, none_put}
-
-pub moved : (P : Setting → List Entry → Type 0) (s s' : Setting) (past past' : List Entry) → s' ≡ s → past' ≡ past → P s past → P s' past'
-moved P s s' past past' e f h = subst (λ p. P s' p) (sym f) (subst (λ x. P x past) (sym e) h)
-
-numbered_there : (lines : List Line) (n : ℕ) → 1 ≤ n → n ≤ length lines → (l : Line) × (numbered lines n ≡ Some l)
-numbered_there lines zero some there = absurd (omega arith)
-numbered_there [] (suc k) some there = absurd (omega arith)
-numbered_there (l ∷ lines) (suc zero) some there = (l, refl)
-numbered_there (l ∷ lines) (suc (suc k)) some there = numbered_there lines (suc k) (omega arith) (omega arith)
 
 -- the worker may split the clause at the node, but for the limit of steps
 pub record MaySplit (s : Setting) (past : List Entry) (w node clause : ℕ) (parts : Parted) : Type 0 where
@@ -42,7 +34,7 @@ pub record AreSplitLines (s : Setting) (past : List Entry) (clause : ℕ) (parts
 pub splittable : (s : Setting) (past : List Entry) (w node clause : ℕ) (parts : Parted) (lines : List Line) (put_off : List Bool) → MaySplit s past w node clause parts → AreSplitLines s past clause parts lines → put_off ≡ replicate (length lines) false → IsSplittable s past w node lines put_off
 splittable s past w node clause parts lines put_off h made off =
     let r = listed_within s past h.legal node clause h.kept in
-    let whole = numbered_there (ledger s past) clause r.0 r.1 in
+    let whole = numbered-there (ledger s past) clause r.0 r.1 in
     record {
       holds = h.holds;
       clause = clause;

@@ -7,7 +7,7 @@ ghost use Rattle.proof_steps.specs.Steps.{numbered};
 ghost use Rattle.case_journal.specs.Journal.{ledger, splits, steps};
 ghost use Rattle.case_journal.specs.Facts.{chosen, kept, Holds};
 ghost use Rattle.case_journal.specs.Ending.{first_end};
-ghost use Rattle.case_journal.specs.Legal.{assume_steps, negations, IsSettled};
+ghost use Rattle.case_journal.specs.Legal.{assume_steps, negation_steps, IsSettled};
 ghost use Rattle.clause_splitting.specs.Splitting.{IsSplitBy, IsFullBy, ArePartsOf, CanAssume, AreConcluded, IsAssumeLine};
 
 use case_journal::Event;
@@ -76,7 +76,7 @@ fn add_negations(
     requires can { (k : ℕ) → k < count → CanAssume table.now.setting table.now.past clause 2 (Some k) }
     requires concluded { AreConcluded table.now.setting table.now.past lines.old }
     ensures steps { OnOk result (map (λ l. l.step) lines.new
-        ≡ map (λ l. l.step) lines.old ++ negations clause 0 count) }
+        ≡ map (λ l. l.step) lines.old ++ negation_steps clause 0 count) }
     ensures concluded { OnOk result (AreConcluded table.now.setting table.now.past lines.new) }
 {
     for number in 0..count {

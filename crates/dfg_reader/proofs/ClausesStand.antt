@@ -19,9 +19,9 @@ use Rattle.dfg_reader.specs.declared.problem.Entry.{Entry}
 use Rattle.dfg_reader.specs.declared.symbols.Found.{Found}
 use Rattle.dfg_reader.specs.Reading.{◌>>=◌, place, tail, refuse, fault, next_mark, next_word, mark_at, word_at, identifier_at, name_at, spelled_at, adding, commas, listed}
 use Rattle.dfg_reader.specs.Symbols.{with_arity, lookup}
-use Rattle.dfg_reader.specs.Terms.{TermReader, fits, fitting, symbol_named, counted, terms_at, arguments_at, application_at, term_at, atom_at}
+use Rattle.dfg_reader.specs.Terms.{TermReader, fits, fitting, symbol_named, checked_arity, terms_at, arguments_at, application_at, term_at, atom_at}
 use Rattle.dfg_reader.specs.Clauses.{unsigned_at, literal_at, literals_at, body_at, within_limits, label_at, clause_at, origin_at, form_at, clauses_head_at, is_refused_list, list_at}
-use Rattle.dfg_reader.specs.Grammar.{Phrase, word, separated, enclosed, arguments, IsSymbol, application, term, atom, unsigned, literal, body, label, clause, origin, clause_list}
+use Rattle.dfg_reader.specs.Grammar.{Phrase, word, comma_separated, enclosed, arguments, IsSymbol, application, term, atom, unsigned, literal, body, label, clause, origin, clause_list}
 use Rattle.dfg_reader.proofs.Kept.{bind_ok, chosen, ok_is, refused_not, fault_not}
 use Rattle.dfg_reader.proofs.Stands.{spelled_is, deep_not}
 use Rattle.dfg_reader.proofs.Names.{found_declared}
@@ -57,8 +57,8 @@ module _ (bytes : List ℕ) (symbols : List Declared) where
       let fit = fitting_stands in_term t.at (with_arity symbols (found a.0 symbols)) f a.2 in
       (fit.1, subst (λ (name : List ℕ). IsDeclaredAs symbols name f) (sym (spelled_is bytes t a.0 a.1)) (declared_stands symbols a.0 f (found a.0 symbols) refl fit.0))
 
-  counted_stands : (at : ℕ) (f : Found) (count : ℕ) → counted at f count ≡ Ok tt → f.arity ≡ count
-  unfolding counted
+  counted_stands : (at : ℕ) (f : Found) (count : ℕ) → checked_arity at f count ≡ Ok tt → f.arity ≡ count
+  unfolding checked_arity
   counted_stands at f count e =
       elim (chosen (f.arity == count) (Ok tt) _ (Ok tt) e) [
         | inl h ↦ eqb-true f.arity count h.0
@@ -74,12 +74,12 @@ module _ (bytes : List ℕ) (symbols : List Declared) where
         let same = ok_is (s ++ b.0.0 ∷ [], b.0.1) y b.2 in
         (b.0.0, ap (λ (q : List X × List Token). q.0) (sym same), subst (λ (q : List X × List Token). P b.0.0 ts q.1) same (law ts b.0 b.1))
 
-    values_stand : (k : ℕ) (ts : List Token) (y : List X × List Token) → commas (adding read) k [] ts ≡ Ok y → separated P y.0 ts y.1
+    values_stand : (k : ℕ) (ts : List Token) (y : List X × List Token) → commas (adding read) k [] ts ≡ Ok y → comma_separated P y.0 ts y.1
     values_stand k ts y e =
         let all = separated_stand P (grown lone) (adding read) added_stands k [] ts y e in
-        subst (λ (xs : List X). separated P xs ts y.1) (sym (all.1 ∙ fold_lone [] all.0)) all.2
+        subst (λ (xs : List X). comma_separated P xs ts y.1) (sym (all.1 ∙ fold_lone [] all.0)) all.2
 
-  enclosed_arguments : (P : Term → Phrase) (args : List Term) (ts rest : List Token) → enclosed (separated P args) ts rest → arguments P args ts rest
+  enclosed_arguments : (P : Term → Phrase) (args : List Term) (ts rest : List Token) → enclosed (comma_separated P args) ts rest → arguments P args ts rest
   enclosed_arguments P [] ts rest p = absurd p.2.1
   enclosed_arguments P (x ∷ xs) ts rest p = p
 
@@ -98,10 +98,10 @@ module _ (bytes : List ℕ) (symbols : List Declared) where
     application_stands : (in_term : Bool) (ts : List Token) (y : Symbol × List Term × List Token) → application_at bytes symbols in_term read ts ≡ Ok y → application bytes symbols in_term P y.0 y.1 ts y.2
     unfolding application_at
     application_stands in_term ts y e =
-        let b = bind_ok (name_at ts) (λ name. symbol_named bytes symbols in_term name.0 >>= λ f. arguments_at read name.1 >>= λ args. counted name.0.at f (length args.0) >>= λ fine. Ok (f.symbol, args.0, args.1)) y e in
-        let c = bind_ok (symbol_named bytes symbols in_term b.0.0) (λ f. arguments_at read b.0.1 >>= λ args. counted b.0.0.at f (length args.0) >>= λ fine. Ok (f.symbol, args.0, args.1)) y b.2 in
-        let g = bind_ok (arguments_at read b.0.1) (λ args. counted b.0.0.at c.0 (length args.0) >>= λ fine. Ok (c.0.symbol, args.0, args.1)) y c.2 in
-        let k = bind_ok (counted b.0.0.at c.0 (length g.0.0)) (λ fine. Ok (c.0.symbol, g.0.0, g.0.1)) y g.2 in
+        let b = bind_ok (name_at ts) (λ name. symbol_named bytes symbols in_term name.0 >>= λ f. arguments_at read name.1 >>= λ args. checked_arity name.0.at f (length args.0) >>= λ fine. Ok (f.symbol, args.0, args.1)) y e in
+        let c = bind_ok (symbol_named bytes symbols in_term b.0.0) (λ f. arguments_at read b.0.1 >>= λ args. checked_arity b.0.0.at f (length args.0) >>= λ fine. Ok (f.symbol, args.0, args.1)) y b.2 in
+        let g = bind_ok (arguments_at read b.0.1) (λ args. checked_arity b.0.0.at c.0 (length args.0) >>= λ fine. Ok (c.0.symbol, args.0, args.1)) y c.2 in
+        let k = bind_ok (checked_arity b.0.0.at c.0 (length g.0.0)) (λ fine. Ok (c.0.symbol, g.0.0, g.0.1)) y g.2 in
         let name = name_stands ts b.0 b.1 in
         let is : IsSymbol symbols in_term c.0.symbol (length g.0.0) (token_bytes bytes b.0.0) = subst (λ (n : ℕ). IsSymbol symbols in_term c.0.symbol n (token_bytes bytes b.0.0)) (counted_stands b.0.0.at c.0 (length g.0.0) k.1) (symbol_stands in_term b.0.0 c.0 c.1) in
         subst (λ (q : Symbol × List Term × List Token). application bytes symbols in_term P q.0 q.1 ts q.2) (ok_is (c.0.symbol, g.0.0, g.0.1) y k.2)

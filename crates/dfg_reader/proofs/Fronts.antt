@@ -13,7 +13,7 @@ use Rattle.dfg_tokens.specs.declared.token.Token.{Token}
 use Rattle.dfg_tokens.specs.Tokens.{AreTokensOf}
 use Rattle.dfg_reader.specs.declared.formula.Formula.{Formula}
 use Rattle.dfg_reader.specs.declared.problem.Entry.{Entry}
-use Rattle.dfg_reader.specs.Grammar.{Phrase, ◌⨾◌, nothing, either, token, mark, word, each, each_behind_comma, separated, enclosed, arguments, symbol, application, term, atom, unsigned, negation, literal, body, label, identifier, text, list_end, origin, clause, clause_list, declaration, declarations, symbol_item, signature, description, descriptions, head}
+use Rattle.dfg_reader.specs.Grammar.{Phrase, ◌⨾◌, nothing, either, token, mark, word, each, each_behind_comma, comma_separated, enclosed, arguments, symbol, application, term, atom, unsigned, negative_literal, literal, body, label, identifier, text, list_end, origin, clause, clause_list, declaration, declarations, symbol_item, signature, description, descriptions, head}
 
 pub all_left : (bytes : List ℕ) (a b : List Token) → AreTokensOf bytes (a ++ b) → AreTokensOf bytes a
 all_left bytes [] b all = tt
@@ -86,13 +86,13 @@ module _ {X : Type 0} (P : X → Phrase) (h : (x : X) → Keeps (P x)) where
   behind_keeps [] = nothing_keeps
   behind_keeps (x ∷ xs) = then_keeps (mark _) (P x ⨾ each_behind_comma P xs) (weaken (mark _) (mark_takes _)) (then_keeps (P x) (each_behind_comma P xs) (h x) (behind_keeps xs))
 
-  separated_keeps : (xs : List X) → Keeps (separated P xs)
+  separated_keeps : (xs : List X) → Keeps (comma_separated P xs)
   separated_keeps [] ts rest p = absurd p
   separated_keeps (x ∷ xs) ts rest p = then_keeps (P x) (each_behind_comma P xs) (h x) (behind_keeps xs) ts rest p
 
   arguments_keep : (xs : List X) → Keeps (arguments P xs)
   arguments_keep [] = nothing_keeps
-  arguments_keep (x ∷ xs) = weaken (enclosed (separated P (x ∷ xs))) (enclosed_takes (separated P (x ∷ xs)) (separated_keeps (x ∷ xs)))
+  arguments_keep (x ∷ xs) = weaken (enclosed (comma_separated P (x ∷ xs))) (enclosed_takes (comma_separated P (x ∷ xs)) (separated_keeps (x ∷ xs)))
 
 -- ---- terms, atoms and literals
 
@@ -115,11 +115,11 @@ unsigned_takes bytes symbols depth f ts rest (inl p) = word_takes _ ts rest p.1
 unsigned_takes bytes symbols depth f ts rest (inr (inl p)) = word_takes _ ts rest p.1
 unsigned_takes bytes symbols depth f ts rest (inr (inr p)) = atom_takes bytes symbols depth p.0 ts rest p.2
 
-negation_takes : (bytes : List ℕ) (symbols : List Declared) (depth : ℕ) (f : Formula) → Takes (negation bytes symbols depth f)
+negation_takes : (bytes : List ℕ) (symbols : List Declared) (depth : ℕ) (f : Formula) → Takes (negative_literal bytes symbols depth f)
 negation_takes bytes symbols depth f ts rest p = then_takes (word _) (enclosed (unsigned bytes symbols (depth - 1) p.0)) (word_takes _) (weaken (enclosed (unsigned bytes symbols (depth - 1) p.0)) (enclosed_takes (unsigned bytes symbols (depth - 1) p.0) (weaken (unsigned bytes symbols (depth - 1) p.0) (unsigned_takes bytes symbols (depth - 1) p.0)))) ts rest p.2
 
 pub literal_takes : (bytes : List ℕ) (symbols : List Declared) (depth : ℕ) (f : Formula) → Takes (literal bytes symbols depth f)
-literal_takes bytes symbols depth f = either_takes (unsigned bytes symbols depth f) (negation bytes symbols depth f) (unsigned_takes bytes symbols depth f) (negation_takes bytes symbols depth f)
+literal_takes bytes symbols depth f = either_takes (unsigned bytes symbols depth f) (negative_literal bytes symbols depth f) (unsigned_takes bytes symbols depth f) (negation_takes bytes symbols depth f)
 
 -- ---- the items of lists
 

@@ -6,7 +6,7 @@ use Rattle.dfg_tokens.specs.declared.word.Word.TheVariants as words
 use Rattle.dfg_tokens.specs.declared.piece.Mark.TheVariants.{OpenParenthesis, Comma, Dot}
 use Rattle.dfg_tokens.specs.declared.token.Token.{Token}
 use Rattle.dfg_reader.specs.Reading.{Reader, next_mark, next_word, mark_at, commas, items, listed}
-use Rattle.dfg_reader.specs.Grammar.{Phrase, ◌⨾◌, mark, each, each_behind_comma, separated, list_end, joined}
+use Rattle.dfg_reader.specs.Grammar.{Phrase, ◌⨾◌, mark, each, each_behind_comma, comma_separated, list_end, concatenated}
 use Rattle.dfg_reader.proofs.Fronts.{Takes, fewer}
 use Rattle.dfg_reader.proofs.Steps.{then_ok, when_true, when_false, token_shorter, token_tail, mark_next, other_mark, mark_read, word_next}
 
@@ -32,7 +32,7 @@ module _ {S X : Type 0} (P : X → Phrase) (step : S → X → S) (Fits : S → 
         ∙ more_read xs (step s x) z k q.0 q.2.0 rest fits (omega (arith, fewer ts between (takes x ts between p), token_shorter _ between q.0 comma)) z_stands later ends))
 
     -- values with commas between them
-    pub separated_read : (xs : List X) (s : S) (ts rest : List Token) → Fits (fold step s xs) → separated P xs ts rest → Ends rest → commas read (length ts) s ts ≡ Ok (fold step s xs, rest)
+    pub separated_read : (xs : List X) (s : S) (ts rest : List Token) → Fits (fold step s xs) → comma_separated P xs ts rest → Ends rest → commas read (length ts) s ts ≡ Ok (fold step s xs, rest)
     separated_read [] s ts rest fits p ends = absurd p
     separated_read (x ∷ xs) s ts rest fits p ends = more_read xs s x (length ts) ts p.0 rest fits (omega arith) p.1 p.2 ends
 
@@ -88,9 +88,9 @@ pub fold_lone : {Y : Type 0} (s ys : List Y) → fold (grown lone) s ys ≡ s ++
 fold_lone s [] = sym (append-nil s)
 fold_lone s (y ∷ ys) = fold_lone (s ++ y ∷ []) ys ∙ append_assoc s (y ∷ []) ys
 
-pub fold_whole : {Y : Type 0} (s : List Y) (groups : List (List Y)) → fold (grown whole) s groups ≡ s ++ joined groups
+pub fold_whole : {Y : Type 0} (s : List Y) (groups : List (List Y)) → fold (grown whole) s groups ≡ s ++ concatenated groups
 fold_whole s [] = sym (append-nil s)
-fold_whole s (g ∷ groups) = fold_whole (s ++ g) groups ∙ append_assoc s g (joined groups)
+fold_whole s (g ∷ groups) = fold_whole (s ++ g) groups ∙ append_assoc s g (concatenated groups)
 
 -- always
 abbrev pub Anything : {S : Type 0} → S → Type 0

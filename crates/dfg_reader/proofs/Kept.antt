@@ -58,10 +58,6 @@ module _ {S : Type 0} (I : S → Type 0) (read : Reader S) (keeps : (s : S) (ts 
       let b = bind_ok (mark_at Dot (tail a.0.1)) (λ rest. Ok (a.0.0, rest)) y a.2 in
       subst (λ (q : S × List Token). I q.0) (ok_is (a.0.0, b.0) y b.2) (items_keep words.EndOfList (length ts) s ts a.0 i a.1)
 
-pub bool_cases : (b : Bool) → (b ≡ true) ⊎ (b ≡ false)
-bool_cases true = inl refl
-bool_cases false = inr refl
-
 pub all-append : {X : Type 0} (P : X → Type 0) (xs ys : List X) → AllByRecursion P xs → AllByRecursion P ys → AllByRecursion P (xs ++ ys)
 all-append P [] ys all more = more
 all-append P (x ∷ xs) ys all more = (all.0, all-append P xs ys all.1 more)

@@ -1,5 +1,6 @@
 -- Clauses within the limits, one more at a time.
 use Rattle.std.proofs.Common.{◌≡◌, ℕ, zero, suc, ◌+◌, ◌≤◌, ◌<◌, inl, inr, Bool, true, false, cond, ◌&&◌, nat_le, nat_lt, List, [], ◌∷◌, ◌++◌, length, drop, fold, get_or, slice_get, Some, Err, refl, sym, ap, ◌∙◌, length-append, arith}
+use Rattle.std.proofs.lemmas.Bool.{and_from, and_parts, cases_Bool}
 use Rattle.std.proofs.lemmas.List.{append-nil, at_drop_more, at_drop_all}
 use Rattle.std.proofs.lemmas.List.Concat.{flat_map-append}
 use Rattle.std.proofs.lemmas.List.Folds.{list_all-append}
@@ -18,7 +19,6 @@ use Rattle.dfg_reader.specs.declared.formula.Formula.TheOpen as layer
 use Rattle.dfg_reader.specs.declared.problem.Role.TheVariants as roles
 use Rattle.dfg_reader.specs.declared.problem.Entry.{Entry}
 use Rattle.dfg_reader.specs.GroundClauses.{is_true_literal, negated_part, with_negated, with_layer, with_literal, no_literals, literals, formula_clauses, entry_clauses, clauses, is_small, are_within_limits, HasLimits}
-use Rattle.dfg_reader.proofs.Kept.{bool_cases}
 
 -- ---- clauses of entries
 
@@ -67,9 +67,6 @@ is_small-false c h = grind (arith, nat_tests)
 counts : (n : ℕ) (b : Bool) → b ≡ true → nat_lt n 65536 ≡ cond (nat_le (n + 1) 65536) b false
 counts n b e = rw e (grind (arith, nat_tests))
 
-pub and_true : (a b : Bool) → a ≡ true → b ≡ true → (a && b) ≡ true
-and_true a b e h = rw (e, h) refl
-
 and_false : (a b : Bool) → b ≡ false → (a && (b && true)) ≡ false
 and_false true b h = rw h refl
 and_false false b h = refl
@@ -81,7 +78,7 @@ never false = refl
 pub may_follow : (cs : List Clause) (c : Clause) → are_within_limits cs ≡ true → clause_symbols c ≤ 4096 → nat_lt (length cs) 65536 ≡ are_within_limits (cs ++ c ∷ [])
 unfolding are_within_limits
 may_follow cs c e h =
-    let small : list_all is_small (cs ++ c ∷ []) ≡ true = list_all-append is_small cs (c ∷ []) ∙ and_true (list_all is_small cs) (is_small c && true) (both (nat_le (length cs) 65536) (list_all is_small cs) e).1 (and_true (is_small c) true (is_small-true c h) refl) in
+    let small : list_all is_small (cs ++ c ∷ []) ≡ true = list_all-append is_small cs (c ∷ []) ∙ and_from (list_all is_small cs) (is_small c && true) (both (nat_le (length cs) 65536) (list_all is_small cs) e).1 (and_from (is_small c) true (is_small-true c h) refl) in
     counts (length cs) (list_all is_small (cs ++ c ∷ [])) small ∙ ap (λ n. cond (nat_le n 65536) (list_all is_small (cs ++ c ∷ [])) false) (sym (length-append cs (c ∷ [])))
 
 pub too_large : (cs : List Clause) (c : Clause) → 4096 < clause_symbols c → are_within_limits (cs ++ c ∷ []) ≡ false
@@ -99,7 +96,7 @@ no_atoms_yet c h = λ i. record { constraint = h.0 i; antecedent = h.1 i; succed
 
 with_atom-grows : (c : Clause) (part : Part) (a : Atom) → clause_symbols c ≤ clause_symbols (with_atom c part a)
 with_atom-grows c part a =
-    elim (bool_cases (list_any (λ b. is_same a b) (part_of c part))) [
+    elim (cases_Bool (list_any (λ b. is_same a b) (part_of c part))) [
       | inl e ↦ omega (arith, ap clause_symbols (with_atom-repeated c part a e))
       | inr e ↦ omega (arith, with_atom-new c part a e)
     ]
@@ -143,10 +140,6 @@ already_large c fs i f all h e so_far large =
 
 pub entry-next : (es : List Entry) (i : ℕ) (e : Entry) → i < length es → e ≡ get_or es i e → clauses (drop i es) ≡ entry_clauses e ++ clauses (drop (i + 1) es)
 entry-next es i e h is = at_drop_more clauses es i e h ∙ ap (λ d. clauses (d ∷ drop (i + 1) es)) (sym is) ∙ clauses-next (drop (i + 1) es) e
-
-pub and_parts : (a b : Bool) → (a && b) ≡ true → (a ≡ true) × (b ≡ true)
-and_parts true b e = (refl, e)
-and_parts false b e = absurd cc
 
 pub small-next : (es : List Entry) (i : ℕ) (e : Entry) → i < length es → e ≡ get_or es i e → list_all is_small (clauses (drop i es)) ≡ true → (list_all is_small (entry_clauses e) ≡ true) × (list_all is_small (clauses (drop (i + 1) es)) ≡ true)
 small-next es i e h is so_far =

@@ -1,6 +1,6 @@
 -- Symbols that are found by their names.
-use Rattle.std.proofs.Common.{◌≡◌, ℕ, zero, suc, ◌+◌, ◌≤◌, ◌<◌, ◌⊎◌, inl, inr, Bool, true, false, not, cond, List, [], ◌∷◌, ◌++◌, length, Option, Some, None, get_or, slice_get, option_map, option_and_then, nat_lt, IsSomeAnd, refl, sym, ap, subst, ◌∙◌, length-append, arith}
-use Rattle.std.proofs.lemmas.Bool.{ltb-true, ltb-false, lt-ltb}
+use Rattle.std.proofs.Common.{◌≡◌, ℕ, zero, suc, ◌+◌, ◌<◌, Bool, true, false, not, cond, List, [], ◌∷◌, ◌++◌, length, Option, Some, None, get_or, slice_get, option_map, option_and_then, nat_lt, IsSomeAnd, refl, sym, ap, ◌∙◌, length-append, arith}
+use Rattle.std.proofs.lemmas.Bool.{ltb-true, lt-ltb}
 use Rattle.std.proofs.lemmas.Option.{slice_get_within, get_or_from_slice_get}
 use Rattle.std.proofs.lemmas.List.Quantifiers.{position-Some}
 use Rattle.std.proofs.lemmas.Slice.Eq.{bytes_eq-Decides}
@@ -110,60 +110,3 @@ new_name xs d ys own = by_found (found d.name xs) refl
         let number : s.number ≡ length xs = ap (λ (x : Symbol). x.number) at in
         let within : s.number < length xs = found_within d.name xs s is in
         absurd (omega arith)
-
--- ---- one more name
-
-module _ {X : Type 0} (p : X → Bool) where
-  place_last : (xs : List X) (y : X) → length xs ≤ position_or_len p xs → p y ≡ true → position_or_len p (xs ++ y ∷ []) ≡ length xs
-  place_last [] y h e = ap (λ b. cond (not b) (1 + 0) 0) e
-  place_last (x ∷ xs) y h e = by_test (p x) h (λ k. place_last xs y k e)
-    where
-      by_test : (b : Bool) → suc (length xs) ≤ cond (not b) (1 + position_or_len p xs) 0 → (length xs ≤ position_or_len p xs → position_or_len p (xs ++ y ∷ []) ≡ length xs) → cond (not b) (1 + position_or_len p (xs ++ y ∷ [])) 0 ≡ suc (length xs)
-      by_test true k more = absurd (omega arith)
-      by_test false k more = let m = more (omega arith) in omega arith
-
-none_past : (ds : List Declared) (i : ℕ) → i < length ds → slice_get ds i ≡ None → ⊥
-none_past [] i h e = absurd (omega arith)
-none_past (d ∷ ds) zero h e = cc
-none_past (d ∷ ds) (suc i) h e = none_past ds i (omega arith) e
-
-none_some : (s : Symbol) → None ≡ Some s → ⊥
-none_some s e = cc
-
-passed : (name : List ℕ) (ds : List Declared) → found name ds ≡ None → length ds ≤ position_or_len (λ d. bytes_eq name d.name) ds
-passed name ds none = by_test (nat_lt (position_or_len (λ d. bytes_eq name d.name) ds) (length ds)) refl
-  where
-    i : ℕ
-    i = position_or_len (λ d. bytes_eq name d.name) ds
-
-    by_test : (b : Bool) → nat_lt i (length ds) ≡ b → length ds ≤ i
-    by_test false t = ltb-false i (length ds) t
-    by_test true t = absurd (by_declared (slice_get ds i) refl)
-      where
-        by_declared : (o : Option Declared) → slice_get ds i ≡ o → ⊥
-        by_declared None is = none_past ds i (ltb-true i (length ds) t) is
-        by_declared (Some d) is =
-            let some : found name ds ≡ Some (record { number = i; kind = d.kind }) = ap (λ b. at_place ds (cond b (Some i) None)) t ∙ ap (option_map (λ (x : Declared). record { number = i; kind = x.kind })) is in
-            none_some (record { number = i; kind = d.kind }) (sym none ∙ some)
-
-old_or_last : (ds : List Declared) (x : Declared) (i : ℕ) (d : Declared) → slice_get (ds ++ x ∷ []) i ≡ Some d → (slice_get ds i ≡ Some d) ⊎ ((i ≡ length ds) × (x ≡ d))
-old_or_last [] x zero d e = inr (refl, cc)
-old_or_last [] x (suc i) d e = absurd cc
-old_or_last (y ∷ ds) x zero d e = inl e
-old_or_last (y ∷ ds) x (suc i) d e = elim (old_or_last ds x i d e) [ inl h ↦ inl h | inr h ↦ inr (ap suc h.0, h.1) ]
-
-found_last : (ds : List Declared) (d : Declared) → found d.name ds ≡ None → found d.name (ds ++ d ∷ []) ≡ Some (record { number = length ds; kind = d.kind })
-found_last ds d none =
-    let p : Declared → Bool = λ x. bytes_eq d.name x.name in
-    let place : position_or_len p (ds ++ d ∷ []) ≡ length ds = place_last p ds d (passed d.name ds none) ((bytes_eq-Decides d.name d.name).1 refl) in
-    let within : nat_lt (position_or_len p (ds ++ d ∷ [])) (length (ds ++ d ∷ [])) ≡ true = lt-ltb (position_or_len p (ds ++ d ∷ [])) (length (ds ++ d ∷ [])) (omega (arith, length-append ds (d ∷ []))) in
-    let here : position p (ds ++ d ∷ []) ≡ Some (length ds) = rw within (ap Some place) in
-    ap (at_place (ds ++ d ∷ [])) here ∙ ap (option_map (λ (x : Declared). record { number = length ds; kind = x.kind })) (get_next ds d [])
-
--- each name is found at its own place after one more name too
-pub one_more_name : (ds : List Declared) (x : Declared) → HasOwnNames ds → found x.name ds ≡ None → HasOwnNames (ds ++ x ∷ [])
-one_more_name ds x own none i d e =
-    elim (old_or_last ds x i d e) [
-      | inl h ↦ found_kept d.name ds (x ∷ []) (record { number = i; kind = d.kind }) (own i d h)
-      | inr h ↦ subst (λ (y : Declared). found y.name (ds ++ x ∷ []) ≡ Some (record { number = i; kind = y.kind })) h.1 (found_last ds x none ∙ ap (λ (n : ℕ). Some (record { number = n; kind = x.kind })) (sym h.0))
-    ]

@@ -1,5 +1,6 @@
 -- The symbols of what is written are those of the signature.
 use Rattle.std.proofs.Common.{◌≡◌, ◌==◌, eq-eqb, ℕ, zero, suc, ◌-◌, inl, inr, Bool, true, false, ◌&&◌, List, [], ◌∷◌, length, slice_get, Result, Ok, Err, IfOk, refl, sym, ap, ◌∙◌}
+use Rattle.std.proofs.lemmas.Bool.{and_from}
 use Rattle.std.proofs.lemmas.List.{length-map}
 use Rattle.std.proofs.lemmas.List.Folds.{list_all-map}
 use Rattle.std.specs.List.{list_all, AllByRecursion}
@@ -21,7 +22,6 @@ use Rattle.dfg_reader.specs.declared.problem.Entry.{Entry}
 use Rattle.dfg_reader.specs.declared.problem.Problem.{Problem}
 use Rattle.dfg_reader.specs.Terms.{fits}
 use Rattle.dfg_reader.specs.OfSignature.{declares, is_declared, term_of_step, is_term_of, is_atom_of, formula_of_step, is_formula_of, AreOfSignature}
-use Rattle.dfg_reader.proofs.Limits.{and_true}
 use Rattle.dfg_reader.proofs.Phrases.{arguments_hold, separated_hold, entries_hold}
 use Rattle.dfg_reader.specs.Grammar.{Phrase, IsSymbol, application, term, atom, unsigned, literal, body, clause, IsWritten}
 
@@ -32,21 +32,21 @@ same_kind Sort = refl
 
 all_pass : {X : Type 0} (test : X → Bool) (xs : List X) → AllByRecursion (λ x. test x ≡ true) xs → list_all test xs ≡ true
 all_pass test [] all = refl
-all_pass test (x ∷ xs) all = and_true (test x) (list_all test xs) all.0 (all_pass test xs all.1)
+all_pass test (x ∷ xs) all = and_from (test x) (list_all test xs) all.0 (all_pass test xs all.1)
 
 module _ (bytes : List ℕ) (symbols : List Declared) where
   -- ---- terms and atoms
 
   symbol_declared : (in_term : Bool) (s : Symbol) (count : ℕ) (name : List ℕ) → IsSymbol symbols in_term s count name → is_declared symbols in_term s count ≡ true
   symbol_declared in_term s count name is =
-      and_true (fits in_term s.kind) (declares (slice_get symbols s.number) s.kind count) is.0
-      (ap (λ o. declares o s.kind count) is.1 ∙ and_true (kind_eq s.kind s.kind) (count == count) (same_kind s.kind) (eq-eqb count count refl))
+      and_from (fits in_term s.kind) (declares (slice_get symbols s.number) s.kind count) is.0
+      (ap (λ o. declares o s.kind count) is.1 ∙ and_from (kind_eq s.kind s.kind) (count == count) (same_kind s.kind) (eq-eqb count count refl))
 
   application_of : (in_term : Bool) (P : Term → Phrase) → ((t : Term) (ts rest : List Token) → P t ts rest → is_term_of symbols t ≡ true)
       → (s : Symbol) (args : List Term) (ts rest : List Token) → application bytes symbols in_term P s args ts rest → (is_declared symbols in_term s (length args) && list_all (is_term_of symbols) args) ≡ true
   application_of in_term P law s args ts rest p =
       let named = p.1.1 in
-      and_true (is_declared symbols in_term s (length args)) (list_all (is_term_of symbols) args) (symbol_declared in_term s (length args) named.0 named.1) (all_pass (is_term_of symbols) args (arguments_hold P (λ t. is_term_of symbols t ≡ true) law args p.0 rest p.2))
+      and_from (is_declared symbols in_term s (length args)) (list_all (is_term_of symbols) args) (symbol_declared in_term s (length args) named.0 named.1) (all_pass (is_term_of symbols) args (arguments_hold P (λ t. is_term_of symbols t ≡ true) law args p.0 rest p.2))
 
   applied : (f : Symbol) (args : List Term) → (is_declared symbols true f (length args) && list_all (is_term_of symbols) args) ≡ true → is_term_of symbols (App f args) ≡ true
   applied f args e =

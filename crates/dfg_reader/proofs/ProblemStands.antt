@@ -1,5 +1,6 @@
 -- What is read as a problem is written so.
-use Rattle.std.proofs.Common.{◌≡◌, ℕ, ◌≤◌, ◌<◌, ◌⊎◌, inl, inr, Bool, true, false, ◌||◌, nat_le, nat_lt, List, [], ◌∷◌, ◌++◌, length, Option, Some, None, Result, Ok, Err, IfOk, refl, sym, ap, subst, ◌∙◌, length-append, arith}
+use Rattle.std.proofs.Common.{◌≡◌, ℕ, ◌≤◌, ◌<◌, inl, inr, Bool, true, false, ◌||◌, nat_le, nat_lt, List, [], ◌∷◌, ◌++◌, length, Option, Some, None, Result, Ok, Err, IfOk, refl, sym, ap, subst, ◌∙◌, length-append, arith}
+use Rattle.std.proofs.lemmas.Bool.{or_cases}
 use Rattle.std.proofs.lemmas.Bool.Decides.{nat_tests}
 use Rattle.std.specs.Bool.{⊤}
 use Rattle.std.specs.List.{AllByRecursion}
@@ -13,8 +14,8 @@ use Rattle.dfg_tokens.specs.declared.piece.Mark.TheVariants.{OpenParenthesis, Cl
 use Rattle.dfg_tokens.specs.declared.piece.TokenKind.TheVariants as kinds
 use Rattle.dfg_tokens.specs.declared.token.Token.{Token}
 use Rattle.dfg_tokens.specs.Names.{is_name}
-use Rattle.dfg_tokens.specs.Tokens.{token_bytes, tokens, IsSpelled, IsTokenOf, AreTokensOf}
-use Rattle.dfg_tokens.proofs.OwnBytes.{own_tokens}
+use Rattle.dfg_tokens.specs.Tokens.{token_bytes, tokens}
+use Rattle.spl_symbols.specs.NameLaws.{one_more_name}
 use Rattle.dfg_reader.specs.declared.fault.InputError.{InputError}
 use Rattle.dfg_reader.specs.declared.fault.FaultKind.TheVariants.{Unexpected, DeclaredTwice, OutsideProfile, LimitReached}
 use Rattle.dfg_reader.specs.declared.fault.Limit.TheVariants as limits
@@ -26,12 +27,10 @@ use Rattle.dfg_reader.specs.Symbols.{named_if, free_if, new_name_at, arity_of, a
 use Rattle.dfg_reader.specs.GroundClauses.{formula_clauses, clauses, are_within_limits, HasLimits}
 use Rattle.dfg_reader.specs.Clauses.{body_at, within_limits, label_at, clause_at, clauses_head_at, is_refused_list, list_at}
 use Rattle.dfg_reader.specs.Problems.{is_text_item, is_status, status_at, description_at, descriptions_at, head_at, problem_at, problem}
-use Rattle.dfg_reader.specs.Grammar.{Phrase, mark, word, token, any_word, each, each_behind_comma, joined, IsNameOf, IsNumberOf, declaration, declarations, symbol_item, signature, is_description_word, is_status_word, description, descriptions, head, clause_list, IsSignature, IsWritten}
-use Rattle.dfg_reader.proofs.Kept.{bind_ok, chosen, ok_is, refused_not, fault_not, commas_keep, listed_keep, items_keep, all-append, all-push}
+use Rattle.dfg_reader.specs.Grammar.{mark, word, token, any_word, IsNumberOf, declaration, declarations, symbol_item, signature, is_description_word, is_status_word, description, descriptions, head, clause_list, IsSignature, IsWritten}
+use Rattle.dfg_reader.proofs.Kept.{bind_ok, chosen, ok_is, refused_not, fault_not, commas_keep, listed_keep, items_keep, all-push}
 use Rattle.dfg_reader.proofs.Limits.{limits-push, none_within, clauses-none}
-use Rattle.dfg_reader.proofs.Fronts.{all_right, Keeps, weaken, token_takes, declaration_takes, symbol_item_takes, head_keeps, descriptions_keep}
 use Rattle.dfg_reader.proofs.Stands.{spelled_is}
-use Rattle.dfg_reader.proofs.Names.{one_more_name}
 use Rattle.dfg_reader.proofs.InRow.{grown, lone, whole, fold_lone, fold_whole}
 use Rattle.dfg_reader.proofs.Stands.{mark_stands, next_word_stands, word_stands, identifier_stands, name_stands, text_stands, separated_stand, items_stand, listed_stand}
 use Rattle.dfg_reader.proofs.ClausesStand.{list_stands}
@@ -233,10 +232,6 @@ module _ (bytes : List ℕ) (symbols : List Declared) where
       ]
 
 -- ---- descriptions
-
-or_cases : (a b : Bool) → (a || b) ≡ true → (a ≡ true) ⊎ (b ≡ true)
-or_cases true b e = inl refl
-or_cases false b e = inr e
 
 one_of : (test : Word → Bool) (w : Word) (ts : List Token) → test w ≡ true → next_word w ts ≡ true → any_word test ts (tail ts)
 one_of test w ts passes e = let p = next_word_stands w ts e in (p.0, (w, p.1, passes), p.2)

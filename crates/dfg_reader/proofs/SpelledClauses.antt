@@ -1,13 +1,15 @@
 -- Each clause of a problem is spelled by the bytes, from its place on.
-use Rattle.std.proofs.Common.{◌≡◌, ℕ, zero, suc, ◌-◌, ◌⊎◌, inl, inr, Bool, true, false, List, [], ◌∷◌, ◌++◌, map, slice_get, Some, Result, Ok, Err, IfOk, refl, sym, ap, subst, ◌∙◌, append_assoc}
+use Rattle.std.proofs.Common.{◌≡◌, ℕ, zero, suc, ◌-◌, ◌⊎◌, inl, inr, Bool, true, false, List, [], ◌∷◌, ◌++◌, map, slice_get, Option, Some, option_map, Result, Ok, Err, IfOk, refl, sym, ap, subst, ◌∙◌, append_assoc}
+use Rattle.std.proofs.lemmas.Bool.{cases_Bool}
 use Rattle.std.proofs.lemmas.List.{map-append}
 use Rattle.std.proofs.lemmas.Slice.Eq.{bytes_eq-Decides}
+use Rattle.std.specs.Option.{unwrap_or}
 use Rattle.std.specs.Str.{bytes_eq}
 use Rattle.spl_terms.specs.declared.term.Symbol.{Symbol}
 use Rattle.spl_terms.specs.declared.term.Term.{Term}
 use Rattle.spl_terms.specs.declared.atom.Atom.{Atom}
 use Rattle.spl_terms.specs.TermLaws.{fold-App}
-use Rattle.spl_symbols.specs.Symbols.{Declared}
+use Rattle.spl_symbols.specs.Symbols.{Declared, name_of}
 use Rattle.dfg_tokens.specs.declared.word.Word.{Word}
 use Rattle.dfg_tokens.specs.declared.word.Word.TheVariants as words
 use Rattle.dfg_tokens.specs.declared.piece.Mark.{Mark}
@@ -16,7 +18,7 @@ use Rattle.dfg_tokens.specs.declared.piece.TokenKind.TheVariants as kinds
 use Rattle.dfg_tokens.specs.declared.token.Token.{Token}
 use Rattle.dfg_tokens.specs.Words.{spelling, first_word, word_of}
 use Rattle.dfg_tokens.specs.Tokens.{token_bytes, tokens, IsSpelled, IsTokenOf, AreTokensOf}
-use Rattle.dfg_tokens.proofs.OwnBytes.{own_tokens}
+use Rattle.dfg_tokens.specs.TokenLaws.{own_tokens}
 use Rattle.dfg_reader.specs.declared.fault.InputError.{InputError}
 use Rattle.dfg_reader.specs.declared.formula.Formula.{Formula, Formula-F, out-Formula}
 use Rattle.dfg_reader.specs.declared.formula.Formula.TheOpen as layer
@@ -24,10 +26,10 @@ use Rattle.dfg_reader.specs.declared.formula.Formula.TheViews.{outs-True, outs-F
 use Rattle.dfg_reader.specs.declared.problem.Entry.{Entry}
 use Rattle.dfg_reader.specs.declared.problem.Problem.{Problem}
 use Rattle.dfg_reader.specs.Reading.{place}
-use Rattle.dfg_reader.specs.Grammar.{Phrase, mark, word, token, each, each_behind_comma, separated, enclosed, arguments, application, term, atom, unsigned, literal, body, clause, clause_list, joined, IsWritten}
-use Rattle.dfg_reader.specs.Written.{Spelling, name_of, sign, behind_commas, in_parentheses, written_step, written_term, written_atom, written_unsigned, written_layer, written_literal, written_body, written_clause, IsSpelledIn, AreSpelledIn}
+use Rattle.dfg_reader.specs.Grammar.{Phrase, mark, word, token, each, each_behind_comma, comma_separated, enclosed, arguments, application, term, atom, unsigned, literal, body, clause, clause_list, concatenated, IsWritten}
+use Rattle.dfg_reader.specs.Written.{Spelling, sign, behind_commas, in_parentheses, written_step, written_term, written_atom, written_unsigned, written_layer, written_literal, written_body, written_clause, IsSpelledIn, AreSpelledIn}
 use Rattle.dfg_reader.proofs.Fronts.{all_left, all_right, Leaves, leaves_then, weaken, head_keeps, descriptions_keep, signature_keeps, clause_takes, clause_list_takes, list_head_keeps}
-use Rattle.dfg_reader.proofs.Kept.{bool_cases, all-append}
+use Rattle.dfg_reader.proofs.Kept.{all-append}
 
 -- ---- the tokens of a phrase, byte for byte
 
@@ -37,14 +39,12 @@ pub record Spells (bytes : List ℕ) (ts : List Token) (ws : Spelling) (rest : L
   pub spelled : AreTokensOf bytes front → map (token_bytes bytes) front ≡ ws
 
 name_at : (ds : List Declared) (i : ℕ) (d : Declared) → slice_get ds i ≡ Some d → name_of ds i ≡ d.name
-name_at [] i d e = absurd cc
-name_at (x ∷ ds) zero d e = let same : x ≡ d = cc in ap (λ (y : Declared). y.name) same
-name_at (x ∷ ds) (suc i) d e = name_at ds i d e
+name_at ds i d e = ap (λ (o : Option Declared). unwrap_or (option_map (λ (x : Declared). x.name) o) []) e
 
 first_spelled : (ws : List Word) (text : List ℕ) → (first_word ws text ≡ words.Plain) ⊎ (spelling (first_word ws text) ≡ text)
 first_spelled [] text = inl refl
 first_spelled (w ∷ ws) text =
-    elim (bool_cases (bytes_eq (spelling w) text)) [
+    elim (cases_Bool (bytes_eq (spelling w) text)) [
       | inl e ↦ inr (rw e ((bytes_eq-Decides (spelling w) text).0 e))
       | inr e ↦ rw e (first_spelled ws text)
     ]
@@ -99,10 +99,10 @@ module _ (bytes : List ℕ) where
         let value = p.2 in
         spells_then ts p.0 rest (sign Comma ∷ []) (w x ++ behind_commas (map w xs)) (mark_spells Comma ts p.0 p.1) (spells_then p.0 value.0 rest (w x) (behind_commas (map w xs)) (law x p.0 value.0 value.1) (behind_spells xs value.0 rest value.2))
 
-    separated_spells : (xs : List X) (ts rest : List Token) → enclosed (separated P xs) ts rest → Spells bytes ts (in_parentheses (map w xs)) rest
+    separated_spells : (xs : List X) (ts rest : List Token) → enclosed (comma_separated P xs) ts rest → Spells bytes ts (in_parentheses (map w xs)) rest
     separated_spells [] ts rest p = absurd p.2.1
     separated_spells (x ∷ xs) ts rest p =
-        enclosed_spells (separated P (x ∷ xs)) (w x ++ behind_commas (map w xs)) (λ us after q. spells_then us q.0 after (w x) (behind_commas (map w xs)) (law x us q.0 q.1) (behind_spells xs q.0 after q.2)) ts rest p
+        enclosed_spells (comma_separated P (x ∷ xs)) (w x ++ behind_commas (map w xs)) (λ us after q. spells_then us q.0 after (w x) (behind_commas (map w xs)) (law x us q.0 q.1) (behind_spells xs q.0 after q.2)) ts rest p
 
     arguments_spell : (xs : List X) (ts rest : List Token) → arguments P xs ts rest → Spells bytes ts (in_parentheses (map w xs)) rest
     arguments_spell [] ts rest p = none_spells ts rest p
@@ -178,13 +178,13 @@ module _ (bytes : List ℕ) where
     clauses_spelled (e ∷ es) ts rest l p =
         (entry_spelled e ts p.0 l p.1, clauses_spelled es p.0 rest (leaves_then (tokens bytes) ts p.0 l (weaken _ (clause_takes bytes symbols e) ts p.0 p.1)) p.2)
 
-    lists_spelled : (groups : List (List Entry)) (ts rest : List Token) → Leaves (tokens bytes) ts → each (clause_list bytes symbols) groups ts rest → AreSpelledIn bytes symbols (joined groups)
+    lists_spelled : (groups : List (List Entry)) (ts rest : List Token) → Leaves (tokens bytes) ts → each (clause_list bytes symbols) groups ts rest → AreSpelledIn bytes symbols (concatenated groups)
     lists_spelled [] ts rest l p = tt
     lists_spelled (g ∷ groups) ts rest l p =
         let list = p.1 in
         let dot = list.2.2 in
         let begun = leaves_then (tokens bytes) ts dot.0 l (list_head_keeps ts dot.0 (list.0, list.1, (list.2.0, list.2.1, dot.1))) in
-        all-append (IsSpelledIn bytes symbols) g (joined groups) (clauses_spelled g dot.0 dot.2.0 begun dot.2.1) (lists_spelled groups p.0 rest (leaves_then (tokens bytes) ts p.0 l (weaken _ (clause_list_takes bytes symbols g) ts p.0 list)) p.2)
+        all-append (IsSpelledIn bytes symbols) g (concatenated groups) (clauses_spelled g dot.0 dot.2.0 begun dot.2.1) (lists_spelled groups p.0 rest (leaves_then (tokens bytes) ts p.0 l (weaken _ (clause_list_takes bytes symbols g) ts p.0 list)) p.2)
 
 spelled-problem : (bytes : List ℕ) (p : Problem) → IsWritten bytes p → AreSpelledIn bytes p.signature p.entries
 spelled-problem bytes p w =

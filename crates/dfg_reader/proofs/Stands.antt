@@ -16,7 +16,7 @@ use Rattle.dfg_reader.specs.Terms.{too_deep}
 use Rattle.spl_terms.specs.declared.term.Term.{Term}
 use Rattle.std.specs.Str.{is_utf8}
 use Rattle.dfg_reader.specs.Reading.{◌>>=◌, Reader, tail, refuse, is_reserved, kind_is_mark, kind_is_word, kind_is_name, kind_is_identifier, kind_is_text, next_is, next_mark, next_word, mark_at, word_at, taken, identifier_at, name_at, text_at, commas, items, listed, fault, bytes_of, spelled_at}
-use Rattle.dfg_reader.specs.Grammar.{Phrase, ◌⨾◌, token, mark, word, text, each, separated, list_end}
+use Rattle.dfg_reader.specs.Grammar.{Phrase, ◌⨾◌, token, mark, word, text, each, comma_separated, list_end}
 use Rattle.dfg_reader.proofs.Kept.{bind_ok, chosen, done, ok_is, refused_not, fault_not}
 use Rattle.dfg_reader.proofs.Steps.{same_word}
 
@@ -158,12 +158,12 @@ deep_not ts y e =
 
 module _ {S X : Type 0} (P : X → Phrase) (step : S → X → S) (read : Reader S) (law : (s : S) (ts : List Token) (y : S × List Token) → read s ts ≡ Ok y → (x : X) × (y.0 ≡ step s x) × P x ts y.1) where
   abbrev Separated : S → List Token → S × List Token → Type 0
-  Separated s ts y = (xs : List X) × (y.0 ≡ fold step s xs) × separated P xs ts y.1
+  Separated s ts y = (xs : List X) × (y.0 ≡ fold step s xs) × comma_separated P xs ts y.1
 
   one_more : (s : S) (x : X) (ts between after : List Token) (y : S × List Token) → P x ts between → mark marks.Comma between after → Separated (step s x) after y → Separated s ts y
   one_more s x ts between after y p comma more = by_list more.0 more.1 more.2
     where
-      by_list : (xs : List X) → y.0 ≡ fold step (step s x) xs → separated P xs after y.1 → Separated s ts y
+      by_list : (xs : List X) → y.0 ≡ fold step (step s x) xs → comma_separated P xs after y.1 → Separated s ts y
       by_list [] is q = absurd q
       by_list (z ∷ zs) is q = (x ∷ z ∷ zs, is, (between, p, (after, comma, q)))
 

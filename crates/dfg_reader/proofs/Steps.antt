@@ -1,5 +1,6 @@
 -- One step of reading: a phrase of one token stands there.
 use Rattle.std.proofs.Common.{◌≡◌, ◌==◌, eq-eqb, ◌<◌, inl, inr, Bool, true, false, cond, List, ◌∷◌, length, Result, Ok, refl, sym, ap, ◌∙◌, arith}
+use Rattle.std.proofs.lemmas.Bool.{cases_Bool}
 use Rattle.std.specs.Str.{bytes_eq}
 use Rattle.std.proofs.lemmas.Slice.Eq.{bytes_eq-Decides}
 use Rattle.dfg_tokens.specs.declared.word.Word.{Word}
@@ -14,7 +15,7 @@ use Rattle.dfg_reader.specs.declared.fault.ReadFault.{ReadFault}
 use Rattle.dfg_reader.specs.declared.fault.FaultKind.TheVariants.{Unexpected}
 use Rattle.dfg_reader.specs.Reading.{◌>>=◌, tail, refuse, is_reserved, kind_is_mark, kind_is_word, kind_is_name, kind_is_identifier, kind_is_text, next_is, next_mark, next_word, next_name, mark_at, word_at, taken, identifier_at, name_at, text_at}
 use Rattle.dfg_reader.specs.Grammar.{token, mark, word, text}
-use Rattle.dfg_reader.proofs.Kept.{bool_cases, done}
+use Rattle.dfg_reader.proofs.Kept.{done}
 
 -- ---- how reading goes on
 
@@ -149,7 +150,7 @@ same_word v w e = sym (again v) ∙ ap word_of e ∙ again w
 -- a name is none of the reserved words
 pub name_no_word : (w v : Word) (t : Token) (ts rest : List Token) → is_reserved w ≡ true → t.kind ≡ kinds.Word v → is_reserved v ≡ false → ts ≡ t ∷ rest → next_word w ts ≡ false
 name_no_word w v t ts rest r k free e =
-    elim (bool_cases (next_word w ts)) [
+    elim (cases_Bool (next_word w ts)) [
       | inl h ↦ (let is : bytes_eq (spelling v) (spelling w) ≡ true = sym (next_word_is w v ts rest (t, k, e)) ∙ h in
           let same : v ≡ w = same_word v w ((bytes_eq-Decides (spelling v) (spelling w)).0 is) in
           let no : true ≡ false = sym r ∙ ap is_reserved (sym same) ∙ free in

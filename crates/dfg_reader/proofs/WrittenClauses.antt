@@ -1,5 +1,6 @@
 -- A clause that is written is read, and so is a list of clauses.
-use Rattle.std.proofs.Common.{◌≡◌, ℕ, ◌+◌, ◌-◌, inl, inr, Bool, true, false, ◌||◌, nat_le, List, [], ◌∷◌, ◌++◌, length, Ok, refl, sym, ap, subst, ◌∙◌, length-append, arith}
+use Rattle.std.proofs.Common.{◌≡◌, ℕ, ◌+◌, ◌-◌, inl, inr, true, false, ◌||◌, nat_le, List, [], ◌∷◌, ◌++◌, length, Ok, refl, sym, ap, subst, ◌∙◌, length-append, arith}
+use Rattle.std.proofs.lemmas.Bool.{and_parts, or_right}
 use Rattle.std.proofs.lemmas.Bool.Decides.{nat_tests}
 use Rattle.std.proofs.lemmas.List.Concat.{flat_map-append}
 use Rattle.std.proofs.lemmas.List.Folds.{list_all-append}
@@ -19,18 +20,14 @@ use Rattle.dfg_reader.specs.declared.problem.Entry.{Entry}
 use Rattle.dfg_reader.specs.Reading.{place, is_reserved, next_mark, next_word, mark_at, identifier_at}
 use Rattle.dfg_reader.specs.GroundClauses.{formula_clauses, role_clauses, entry_clauses, clauses, is_small, are_within_limits, HasLimits}
 use Rattle.dfg_reader.specs.Clauses.{unsigned_at, literal_at, body_at, within_limits, label_at, clause_at, origin_at, form_at, clauses_head_at, is_refused_list, list_at}
-use Rattle.dfg_reader.specs.Grammar.{◌⨾◌, enclosed, mark, word, atom, unsigned, negation, literal, body, label, clause, origin, clause_list, IsSignature}
-use Rattle.dfg_reader.proofs.Limits.{both, and_parts, clauses-push}
+use Rattle.dfg_reader.specs.Grammar.{◌⨾◌, enclosed, mark, word, atom, unsigned, negative_literal, literal, body, label, clause, origin, clause_list, IsSignature}
+use Rattle.dfg_reader.proofs.Limits.{both, clauses-push}
 use Rattle.dfg_reader.proofs.Steps.{then_ok, when_true, when_false, token_tail, mark_next, other_mark, mark_read, next_word_is, other_word, word_next, word_read, identifier_read, name_no_word}
 use Rattle.dfg_reader.proofs.Fronts.{literal_takes, clause_takes}
 use Rattle.dfg_reader.proofs.InRow.{Begins, begins_earlier, grown, lone, fold_lone, listed_read}
 use Rattle.dfg_reader.proofs.WrittenTerms.{values_read, closing_ends, atom_read}
 
 -- ---- limits
-
-or_true : (a b : Bool) → b ≡ true → (a || b) ≡ true
-or_true true b e = refl
-or_true false b e = e
 
 fewer : (m n : ℕ) → nat_le (m + n) 65536 ≡ true → nat_le m 65536 ≡ true
 fewer m n e = grind (arith, nat_tests)
@@ -79,7 +76,7 @@ module _ (bytes : List ℕ) (symbols : List Declared) (sig : IsSignature symbols
       (when_false _ _ _ _ (atom_other words.Equal refl depth p.0 ts rest p.2)
       (then_ok _ _ _ _ (atom_read bytes symbols sig depth p.0 ts rest p.2 apart) (ap (λ g. Ok (g, rest)) (sym p.1)))))
 
-  negation_read : (depth : ℕ) (f : Formula) (ts rest : List Token) → negation bytes symbols depth f ts rest → literal_at bytes symbols (depth - 1) ts ≡ Ok (f, rest)
+  negation_read : (depth : ℕ) (f : Formula) (ts rest : List Token) → negative_literal bytes symbols depth f ts rest → literal_at bytes symbols (depth - 1) ts ≡ Ok (f, rest)
   unfolding literal_at
   negation_read depth f ts rest p =
       let named = p.2 in
@@ -153,7 +150,7 @@ module _ (bytes : List ℕ) (symbols : List Declared) (sig : IsSignature symbols
     origin_read : (ts rest : List Token) → origin ts rest → origin_at ts ≡ Ok rest
     unfolding origin_at
     origin_read ts rest (inl p) = when_true _ _ _ _ (ap (λ b. b || next_word words.Conjectures ts) (word_next words.Axioms ts rest p)) (ap (λ us. Ok us) (token_tail _ ts rest p))
-    origin_read ts rest (inr p) = when_true _ _ _ _ (or_true (next_word words.Axioms ts) (next_word words.Conjectures ts) (word_next words.Conjectures ts rest p)) (ap (λ us. Ok us) (token_tail _ ts rest p))
+    origin_read ts rest (inr p) = when_true _ _ _ _ (or_right (next_word words.Axioms ts) (next_word words.Conjectures ts) (word_next words.Conjectures ts rest p)) (ap (λ us. Ok us) (token_tail _ ts rest p))
 
     form_read : (ts rest : List Token) → word words.Cnf ts rest → form_at ts ≡ Ok rest
     unfolding form_at

@@ -23,7 +23,7 @@ use Rattle.dfg_reader.specs.Symbols.{named_if, free_if, new_name_at, arity_if, a
 use Rattle.dfg_reader.specs.GroundClauses.{HasLimits}
 use Rattle.dfg_reader.specs.Clauses.{list_at}
 use Rattle.dfg_reader.specs.Problems.{is_text_item, is_status, status_at, description_at, descriptions_at, head_at, problem_at, problem}
-use Rattle.dfg_reader.specs.Grammar.{mark, word, token, any_word, each, joined, IsNumberOf, declaration, declarations, symbol_item, signature, is_description_word, is_status_word, description, descriptions, head, ending, clause_list, clause_lists, IsSignature, IsWritten}
+use Rattle.dfg_reader.specs.Grammar.{mark, word, token, any_word, each, concatenated, IsNumberOf, declaration, declarations, symbol_item, signature, is_description_word, is_status_word, description, descriptions, head, ending, clause_list, clause_lists, IsSignature, IsWritten}
 use Rattle.dfg_reader.proofs.Names.{new_name, get_next}
 use Rattle.dfg_reader.proofs.Steps.{then_ok, when_true, when_false, token_tail, other_mark, mark_read, mark_no_name, next_word_is, other_word, word_next, word_read, identifier_read, name_read, text_read}
 use Rattle.dfg_reader.proofs.Fronts.{declaration_takes, symbol_item_takes, description_takes, clause_list_takes}
@@ -128,7 +128,7 @@ module _ (bytes : List ℕ) (all : List Declared) (sig : IsSignature all) where
   item_no_end ds ts rest (inl p) = other_word words.EndOfList words.Functions ts p.0 p.1 refl
   item_no_end ds ts rest (inr p) = other_word words.EndOfList words.Predicates ts p.0 p.1 refl
 
-  groups_begin : (groups : List (List Declared)) → all ≡ joined groups → Begins all (fold (grown whole) [] groups)
+  groups_begin : (groups : List (List Declared)) → all ≡ concatenated groups → Begins all (fold (grown whole) [] groups)
   groups_begin groups is = ([], is ∙ sym (fold_whole [] groups) ∙ sym (append-nil (fold (grown whole) [] groups)))
 
   signature_read : (ts rest : List Token) → signature bytes all ts rest → next_word words.ListOfSymbols rest ≡ false → signature_at bytes [] ts ≡ Ok (all, rest)

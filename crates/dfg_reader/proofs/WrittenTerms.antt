@@ -1,5 +1,6 @@
 -- A term that is written is read, and so are an atom and a literal.
 use Rattle.std.proofs.Common.{◌≡◌, eq-eqb, ℕ, zero, suc, ◌-◌, ◌≤◌, ◌<◌, Bool, true, false, not, ◌==◌, List, [], ◌∷◌, length, slice_get, Some, option_map, Result, Ok, refl, sym, ap, subst, ◌∙◌, arith}
+use Rattle.std.proofs.lemmas.Bool.{and_parts}
 use Rattle.std.proofs.lemmas.Bool.Decides.{nat_tests}
 use Rattle.std.proofs.lemmas.Str.{IsUtf8-from_ascii, is_utf8-from_IsUtf8}
 use Rattle.std.specs.List.{list_all, AllByRecursion}
@@ -16,9 +17,8 @@ use Rattle.dfg_reader.specs.declared.fault.ReadFault.{ReadFault}
 use Rattle.dfg_reader.specs.declared.symbols.Found.{Found}
 use Rattle.dfg_reader.specs.Reading.{next_mark, bytes_of, spelled_at, adding, commas}
 use Rattle.dfg_reader.specs.Symbols.{with_arity, lookup}
-use Rattle.dfg_reader.specs.Terms.{TermReader, fitting, symbol_named, counted, terms_at, arguments_at, application_at, term_at, atom_at}
-use Rattle.dfg_reader.specs.Grammar.{Phrase, mark, separated, arguments, IsSymbol, application, term, atom, IsSignature}
-use Rattle.dfg_reader.proofs.Limits.{and_parts}
+use Rattle.dfg_reader.specs.Terms.{TermReader, fitting, symbol_named, checked_arity, terms_at, arguments_at, application_at, term_at, atom_at}
+use Rattle.dfg_reader.specs.Grammar.{Phrase, mark, comma_separated, arguments, IsSymbol, application, term, atom, IsSignature}
 use Rattle.dfg_reader.proofs.Steps.{then_ok, when_true, when_false, token_tail, mark_next, other_mark, mark_read, name_read}
 use Rattle.dfg_reader.proofs.Fronts.{Takes, term_takes}
 use Rattle.dfg_reader.proofs.InRow.{Ends, separated_read, grown, lone, fold_lone, Anything}
@@ -54,7 +54,7 @@ all_at P (y ∷ xs) (suc i) x all e = all_at P xs i x all.1 e
 -- ---- values with commas between them
 
 pub values_read : {X : Type 0} (P : X → Phrase) (read : List Token → Result (X × List Token) ReadFault) → ((x : X) (ts rest : List Token) → P x ts rest → next_mark OpenParenthesis rest ≡ false → read ts ≡ Ok (x, rest)) → ((x : X) → Takes (P x))
-    → (xs : List X) (ts rest : List Token) → separated P xs ts rest → Ends rest → commas (adding read) (length ts) [] ts ≡ Ok (xs, rest)
+    → (xs : List X) (ts rest : List Token) → comma_separated P xs ts rest → Ends rest → commas (adding read) (length ts) [] ts ≡ Ok (xs, rest)
 values_read {X} P read law takes xs ts rest p ends =
     separated_read P (grown lone) Anything (adding read) (λ s ys fits. tt) takes (λ s x us after fits q apart. then_ok _ _ _ _ (law x us after q apart) refl) xs [] ts rest tt p ends
     ∙ ap (λ ys. Ok (ys, rest)) (fold_lone [] xs)
@@ -74,8 +74,8 @@ module _ (bytes : List ℕ) (symbols : List Declared) (sig : IsSignature symbols
       let looked : with_arity symbols (found name symbols) ≡ Some (record { symbol = s; arity = count }) = ap (with_arity symbols) (sig.0 s.number d is.1) ∙ ap (option_map {U = Found} (λ (x : Declared). record { symbol = s; arity = x.arity })) is.1 in
       then_ok _ _ _ _ (spelled_read bytes t name text letters) (ap (fitting in_term t.at) looked ∙ when_true _ _ _ _ is.0 refl)
 
-  counted_read : (at : ℕ) (s : Symbol) (count : ℕ) → counted at (record { symbol = s; arity = count }) count ≡ Ok tt
-  unfolding counted
+  counted_read : (at : ℕ) (s : Symbol) (count : ℕ) → checked_arity at (record { symbol = s; arity = count }) count ≡ Ok tt
+  unfolding checked_arity
   counted_read at s count = when_true _ _ _ _ (eq-eqb count count refl) refl
 
   module _ (P : Term → Phrase) (read : TermReader) (law : (t : Term) (ts rest : List Token) → P t ts rest → next_mark OpenParenthesis rest ≡ false → read ts ≡ Ok (t, rest)) (takes : (t : Term) → Takes (P t)) where

@@ -84,13 +84,13 @@ each_behind_comma P [] = nothing
 each_behind_comma P (x ∷ xs) = mark Comma ⨾ P x ⨾ each_behind_comma P xs
 
 -- the groups one behind the other
-abbrev pub joined : {X : Type 0} → List (List X) → List X
-joined = flat_map (λ xs. xs)
+abbrev pub concatenated : {X : Type 0} → List (List X) → List X
+concatenated = flat_map (λ xs. xs)
 
 -- one or more with commas between them
-abbrev pub separated : {X : Type 0} → (X → Phrase) → List X → Phrase
-separated P [] ts rest = ⊥
-separated P (x ∷ xs) ts rest = (P x ⨾ each_behind_comma P xs) ts rest
+abbrev pub comma_separated : {X : Type 0} → (X → Phrase) → List X → Phrase
+comma_separated P [] ts rest = ⊥
+comma_separated P (x ∷ xs) ts rest = (P x ⨾ each_behind_comma P xs) ts rest
 
 -- in parentheses
 abbrev pub enclosed : Phrase → Phrase
@@ -99,7 +99,7 @@ enclosed P = mark OpenParenthesis ⨾ P ⨾ mark CloseParenthesis
 -- `(x,..)`, or nothing where there are none
 abbrev pub arguments : {X : Type 0} → (X → Phrase) → List X → Phrase
 arguments P [] = nothing
-arguments P (x ∷ xs) = enclosed (separated P (x ∷ xs))
+arguments P (x ∷ xs) = enclosed (comma_separated P (x ∷ xs))
 
 -- ---- terms and atoms
 
@@ -130,16 +130,16 @@ abbrev pub unsigned : List ℕ → List Declared → ℕ → Formula → Phrase
 unsigned bytes symbols depth f ts rest = ((f ≡ True) × word words.True ts rest) ⊎ (((f ≡ False) × word words.False ts rest) ⊎ ((a : Atom) × (f ≡ formulas.Atom a) × atom bytes symbols depth a ts rest))
 
 -- `not(..)` of one of these
-abbrev pub negation : List ℕ → List Declared → ℕ → Formula → Phrase
-negation bytes symbols depth f ts rest = (g : Formula) × (f ≡ Not g) × (word words.Not ⨾ enclosed (unsigned bytes symbols (depth - 1) g)) ts rest
+abbrev pub negative_literal : List ℕ → List Declared → ℕ → Formula → Phrase
+negative_literal bytes symbols depth f ts rest = (g : Formula) × (f ≡ Not g) × (word words.Not ⨾ enclosed (unsigned bytes symbols (depth - 1) g)) ts rest
 
 -- one of both, which nests at most so deep
 abbrev pub literal : List ℕ → List Declared → ℕ → Formula → Phrase
-literal bytes symbols depth f = either (unsigned bytes symbols depth f) (negation bytes symbols depth f)
+literal bytes symbols depth f = either (unsigned bytes symbols depth f) (negative_literal bytes symbols depth f)
 
 -- `or(..)` of literals
 abbrev pub disjunction : List ℕ → List Declared → ℕ → Formula → Phrase
-disjunction bytes symbols depth f ts rest = (fs : List Formula) × (f ≡ Or fs) × (word words.Or ⨾ enclosed (separated (literal bytes symbols (depth - 1)) fs)) ts rest
+disjunction bytes symbols depth f ts rest = (fs : List Formula) × (f ≡ Or fs) × (word words.Or ⨾ enclosed (comma_separated (literal bytes symbols (depth - 1)) fs)) ts rest
 
 -- Formulas and terms nest at most 1,000 deep: `or`, `not`, an atom and each term count one level.
 abbrev pub body : List ℕ → List Declared → Formula → Phrase
@@ -169,7 +169,7 @@ abbrev pub declaration : List ℕ → Kind → Declared → Phrase
 declaration bytes kind d ts rest = (d.kind ≡ kind) × enclosed (token (IsNameOf bytes d.name) ⨾ mark Comma ⨾ token (IsNumberOf bytes d.arity)) ts rest
 
 abbrev pub declarations : List ℕ → Word → Kind → List Declared → Phrase
-declarations bytes w kind ds = word w ⨾ mark OpenBracket ⨾ separated (declaration bytes kind) ds ⨾ mark CloseBracket ⨾ mark Dot
+declarations bytes w kind ds = word w ⨾ mark OpenBracket ⨾ comma_separated (declaration bytes kind) ds ⨾ mark CloseBracket ⨾ mark Dot
 
 -- `functions[..].` or `predicates[..].`
 abbrev pub symbol_item : List ℕ → List Declared → Phrase
@@ -180,7 +180,7 @@ symbol_list bytes groups = word words.ListOfSymbols ⨾ mark Dot ⨾ each (symbo
 
 -- the list of symbols, if there is one
 abbrev pub signature : List ℕ → List Declared → Phrase
-signature bytes symbols ts rest = ((symbols ≡ []) × nothing ts rest) ⊎ ((groups : List (List Declared)) × (symbols ≡ joined groups) × symbol_list bytes groups ts rest)
+signature bytes symbols ts rest = ((symbols ≡ []) × nothing ts rest) ⊎ ((groups : List (List Declared)) × (symbols ≡ concatenated groups) × symbol_list bytes groups ts rest)
 
 -- ---- descriptions
 
@@ -216,7 +216,7 @@ abbrev pub ending : ℕ → Phrase
 ending at ts rest = (at ≡ place ts) × (word words.EndProblem ⨾ mark Dot) ts rest
 
 abbrev pub clause_lists : List ℕ → List Declared → List Entry → Phrase
-clause_lists bytes symbols entries ts rest = (groups : List (List Entry)) × (entries ≡ joined groups) × each (clause_list bytes symbols) groups ts rest
+clause_lists bytes symbols entries ts rest = (groups : List (List Entry)) × (entries ≡ concatenated groups) × each (clause_list bytes symbols) groups ts rest
 
 -- no name stands twice, and there are at most 65,536 symbols, of at most 255 arguments, each called by an identifier that is no reserved
 -- word

@@ -88,9 +88,9 @@ abbrev pub HasLimits : List Entry → Type 0
 HasLimits entries = are_within_limits (clauses entries) ≡ true
 
 -- the clause itself, or none where it has more than 4,096 symbols
-abbrev pub IsWithin : Option Clause → Clause → Type 0
-IsWithin None c = 4096 < clause_symbols c
-IsWithin (Some found) c = (found ≡ c) × (clause_symbols c ≤ 4096)
+abbrev pub IsWithinLimit : Option Clause → Clause → Type 0
+IsWithinLimit None c = 4096 < clause_symbols c
+IsWithinLimit (Some found) c = (found ≡ c) × (clause_symbols c ≤ 4096)
 
 -- each clause is in order: no part has two atoms that are the same, and the variables are numbered by first occurrence
 abbrev pub AreInOrder : List Clause → Type 0

@@ -1,5 +1,6 @@
 -- The list of symbols, or the first fault.
 use Rattle.std.specs.Prelude.{ℕ, ◌+◌, ◌-◌, ◌*◌, Bool, ◌&&◌, ◌||◌, nat_le, nat_lt, if◌then◌else◌, List, [], ◌∷◌, ◌++◌, length, Option, Some, None, option_map, option_and_then, slice_get, Result, Ok, ⊤}
+use Rattle.std.specs.Char.{is_ascii_digit}
 use Rattle.spl_terms.specs.declared.term.Kind.{Kind}
 use Rattle.spl_terms.specs.declared.term.Kind.TheVariants.{Function, Predicate}
 use Rattle.spl_terms.specs.declared.term.Symbol.{Symbol}
@@ -41,12 +42,9 @@ new_name_at bytes symbols token = do
   free ← free_if (found name symbols) (length symbols) token.at
   Ok name
 
-abbrev pub is_digit : ℕ → Bool
-is_digit b = nat_le 48 b && nat_le b 57
-
 abbrev pub digits_from : ℕ → List ℕ → Option ℕ
 digits_from n [] = Some n
-digits_from n (b ∷ bs) = if is_digit b then digits_from (n * 10 + (b - 48)) bs else None
+digits_from n (b ∷ bs) = if is_ascii_digit b then digits_from (n * 10 + (b - 48)) bs else None
 
 -- the number that one to three digits spell
 unfoldable pub arity_of : List ℕ → Option ℕ

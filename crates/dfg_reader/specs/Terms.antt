@@ -31,8 +31,8 @@ unfoldable pub symbol_named : List ℕ → List Declared → Bool → Token → 
 symbol_named bytes symbols in_term token = spelled_at bytes token >>= λ name. fitting in_term token.at (lookup name symbols)
 
 -- so many arguments; a count past the last u32 is told as that
-unfoldable pub counted : ℕ → Found → ℕ → Result ⊤ ReadFault
-counted at f n = if f.arity == n then Ok tt else fault at (Arity f.arity (min n 4294967295))
+unfoldable pub checked_arity : ℕ → Found → ℕ → Result ⊤ ReadFault
+checked_arity at f n = if f.arity == n then Ok tt else fault at (Arity f.arity (min n 4294967295))
 
 -- the name of a term at the depth that isn't allowed
 unfoldable pub too_deep : List Token → Result (Term × List Token) ReadFault
@@ -54,7 +54,7 @@ application_at bytes symbols in_term read ts = do
   name ← name_at ts
   f ← symbol_named bytes symbols in_term name.0
   args ← arguments_at read name.1
-  fine ← counted name.0.at f (length args.0)
+  fine ← checked_arity name.0.at f (length args.0)
   Ok (f.symbol, args.0, args.1)
 
 -- a term that may nest so deep

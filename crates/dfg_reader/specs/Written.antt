@@ -1,11 +1,11 @@
 -- How a clause is written, token by token: a definition that knows nothing of reading.
-use Rattle.std.specs.Prelude.{◌≡◌, ℕ, zero, suc, List, [], ◌∷◌, ◌++◌, map}
+use Rattle.std.specs.Prelude.{◌≡◌, ℕ, List, [], ◌∷◌, ◌++◌, map}
 use Rattle.std.specs.List.{AllByRecursion}
 use Rattle.spl_terms.specs.declared.term.Term.{Term, Term-F, fold-Term}
 use Rattle.spl_terms.specs.declared.term.Term.TheOpen as term_layer
 use Rattle.spl_terms.specs.declared.atom.Atom.{Atom}
 use Rattle.spl_terms.specs.declared.atom.Atom.TheVariants.{Holds, Equal}
-use Rattle.spl_symbols.specs.Symbols.{Declared}
+use Rattle.spl_symbols.specs.Symbols.{Declared, name_of}
 use Rattle.dfg_tokens.specs.declared.piece.Mark.{Mark}
 use Rattle.dfg_tokens.specs.declared.piece.Mark.TheVariants.{OpenParenthesis, CloseParenthesis, Comma}
 use Rattle.dfg_tokens.specs.declared.word.Word.TheVariants as words
@@ -20,12 +20,6 @@ use Rattle.dfg_reader.specs.Reading.{place}
 -- the bytes of each token
 abbrev pub Spelling : Type 0
 Spelling = List (List ℕ)
-
--- the name of the symbol with this number
-abbrev pub name_of : List Declared → ℕ → List ℕ
-name_of [] n = []
-name_of (d ∷ ds) zero = d.name
-name_of (d ∷ ds) (suc n) = name_of ds n
 
 abbrev pub sign : Mark → List ℕ
 sign m = byte_of m ∷ []

@@ -225,7 +225,8 @@ fn clauses<'a>(
     read: &mut ReadClauses,
     tokens: &'a [Token],
 ) -> Result<&'a [Token], InputError>
-    ensures { Gives (λ rest. (read.new, rest.now)) result (items Word.EndOfList (clause_at bytes.now symbols.now) (length tokens.now) read.old tokens.now) }
+    ensures { Gives (λ rest. (read.new, rest.now)) result
+        (items Word.EndOfList (clause_at bytes.now symbols.now) (length tokens.now) read.old tokens.now) }
 {
     let mut rest = tokens;
     for _ in 0..tokens.len() {
@@ -265,7 +266,8 @@ pub fn lists<'a>(
     read: &mut ReadClauses,
     tokens: &'a [Token],
 ) -> Result<&'a [Token], InputError>
-    ensures { Gives (λ rest. (read.new, rest.now)) result (items Word.EndProblem (list_at bytes.now symbols.now) (length tokens.now) read.old tokens.now) }
+    ensures { Gives (λ rest. (read.new, rest.now)) result
+        (items Word.EndProblem (list_at bytes.now symbols.now) (length tokens.now) read.old tokens.now) }
 {
     let mut rest = tokens;
     for _ in 0..tokens.len() {

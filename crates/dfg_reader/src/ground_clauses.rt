@@ -6,7 +6,7 @@ ghost use Rattle.spl_terms.specs.declared.clause.Clause.{Clause};
 ghost use Rattle.spl_terms.specs.Clauses.{clause_symbols, with_atom, CanStand, FitsOrBig};
 ghost use Rattle.dfg_reader.specs.declared.formula.Formula.{out-Formula};
 ghost use Rattle.dfg_reader.specs.declared.problem.Entry.{Entry};
-ghost use Rattle.dfg_reader.specs.GroundClauses.{is_true_literal, is_false_layer, negated_part, with_negated, with_literal, IsWithin, no_literals, literals, formula_clauses, entry_clauses, clauses, is_small, are_within_limits, HasLimits};
+ghost use Rattle.dfg_reader.specs.GroundClauses.{is_true_literal, is_false_layer, negated_part, with_negated, with_literal, IsWithinLimit, no_literals, literals, formula_clauses, entry_clauses, clauses, is_small, are_within_limits, HasLimits};
 
 use crate::formula::Formula;
 use crate::problem::{Entry, Problem, Role};
@@ -100,7 +100,7 @@ fn push_literal(
 
 /// The clause of the literals; none where it has more than 4,096 symbols.
 fn clause_within(alloc: Global, literals: &[Formula]) -> Result<Option<Clause>, AllocError>
-    ensures { IfOk result (λ found. IsWithin found (fold with_literal no_literals literals.now)) }
+    ensures { IfOk result (λ found. IsWithinLimit found (fold with_literal no_literals literals.now)) }
 {
     let mut clause = ClauseBuilder::new(alloc);
     for literal in literals {

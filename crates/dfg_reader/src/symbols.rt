@@ -133,7 +133,8 @@ fn entries<'a>(
     symbols: &mut Signature,
     tokens: &'a [Token],
 ) -> Result<&'a [Token], InputError>
-    ensures { Gives (λ rest. (symbols.new, rest.now)) result (commas (symbol_at bytes.now kind) (length tokens.now) symbols.old tokens.now) }
+    ensures { Gives (λ rest. (symbols.new, rest.now)) result
+        (commas (symbol_at bytes.now kind) (length tokens.now) symbols.old tokens.now) }
 {
     let mut rest = tokens;
     for _ in 0..tokens.len() {
@@ -202,7 +203,8 @@ fn symbol_items<'a>(
     symbols: &mut Signature,
     tokens: &'a [Token],
 ) -> Result<&'a [Token], InputError>
-    ensures { Gives (λ rest. (symbols.new, rest.now)) result (items Word.EndOfList (symbol_item_at bytes.now) (length tokens.now) symbols.old tokens.now) }
+    ensures { Gives (λ rest. (symbols.new, rest.now)) result
+        (items Word.EndOfList (symbol_item_at bytes.now) (length tokens.now) symbols.old tokens.now) }
 {
     let mut rest = tokens;
     for _ in 0..tokens.len() {

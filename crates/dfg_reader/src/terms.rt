@@ -2,7 +2,7 @@
 
 ghost use Rattle.std.specs.Prelude.{◌≡◌, ◌++◌, ◌+◌, [], ◌∷◌, length};
 ghost use Rattle.dfg_reader.specs.Reading.{Gives, commas};
-ghost use Rattle.dfg_reader.specs.Terms.{fits, fitting, symbol_named, counted, too_deep, terms_at, arguments_at, application_at, term_at, atom_at};
+ghost use Rattle.dfg_reader.specs.Terms.{fits, fitting, symbol_named, checked_arity, too_deep, terms_at, arguments_at, application_at, term_at, atom_at};
 
 use crate::declarations::lookup;
 use crate::fault::{FaultKind, InputError, Limit, ReadFault};
@@ -51,9 +51,9 @@ fn symbol_named(
 }
 
 /// The symbol has as many arguments as were read.
-#[tactic(auto, unfolding(crate::specs::Terms::counted))]
-fn counted(at: usize, found: Found, count: usize) -> Result<(), InputError>
-    ensures { Gives (λ x. x) result (counted at found count) }
+#[tactic(auto, unfolding(crate::specs::Terms::checked_arity))]
+fn check_arity(at: usize, found: Found, count: usize) -> Result<(), InputError>
+    ensures { Gives (λ x. x) result (checked_arity at found count) }
 {
     if found.arity as usize == count {
         return Ok(());
@@ -109,12 +109,13 @@ fn application<'a>(
     depth: u32,
     tokens: &'a [Token],
 ) -> Result<(Symbol, Items<Term>, &'a [Token]), InputError>
-    ensures { Gives (λ x. (x.0, x.1, x.2.now)) result (application_at bytes.now symbols.now in_term (term_at bytes.now symbols.now depth) tokens.now) }
+    ensures { Gives (λ x. (x.0, x.1, x.2.now)) result
+        (application_at bytes.now symbols.now in_term (term_at bytes.now symbols.now depth) tokens.now) }
 {
     let (name, rest) = name(tokens)?;
     let found = symbol_named(bytes, symbols, in_term, name)?;
     let (args, rest) = arguments(alloc, bytes, symbols, depth, found.arity, rest)?;
-    counted(name.at as usize, found, args.len())?;
+    check_arity(name.at as usize, found, args.len())?;
     Ok((found.symbol, args, rest))
 }
 

@@ -44,14 +44,14 @@ abbrev pub ends_line : ℕ → Bool
 ends_line b = b == 10
 
 -- whether `*}` stands here
-abbrev pub closes : ℕ → List ℕ → Bool
-closes b [] = false
-closes b (c ∷ cs) = (b == 42) && (c == 125)
+abbrev pub ends_text : ℕ → List ℕ → Bool
+ends_text b [] = false
+ends_text b (c ∷ cs) = (b == 42) && (c == 125)
 
 -- how many bytes stand before the first `*}`
-abbrev pub closing : List ℕ → Option ℕ
-closing [] = None
-closing (b ∷ bs) = if closes b bs then Some 0 else option_map (λ n. n + 1) (closing bs)
+abbrev pub text_length : List ℕ → Option ℕ
+text_length [] = None
+text_length (b ∷ bs) = if ends_text b bs then Some 0 else option_map (λ n. n + 1) (text_length bs)
 
 -- the text at a `{`, with the bytes after it
 abbrev pub closed_text : Option ℕ → Piece
@@ -60,7 +60,7 @@ closed_text (Some n) = record { kind = Some kinds.Text; len = n + 4 }
 
 unfoldable pub text_at : List ℕ → Piece
 text_at [] = record { kind = Some (kinds.Stray 123); len = 1 }
-text_at (b ∷ bs) = if b == 42 then closed_text (closing bs) else record { kind = Some (kinds.Stray 123); len = 1 }
+text_at (b ∷ bs) = if b == 42 then closed_text (text_length bs) else record { kind = Some (kinds.Stray 123); len = 1 }
 
 -- the identifier at a letter
 unfoldable pub name_at : List ℕ → Piece
@@ -101,7 +101,7 @@ tokens = tokens_from 0 0
 
 -- What is known to one who is told that no text can close any more: no `*}` follows the first byte.
 abbrev pub IsWarned : Bool → List ℕ → Type 0
-IsWarned may_close bytes = may_close ≡ false → closing (drop 1 bytes) ≡ None
+IsWarned may_close bytes = may_close ≡ false → text_length (drop 1 bytes) ≡ None
 
 -- ---- what a token says of its bytes
 

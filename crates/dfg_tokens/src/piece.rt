@@ -2,7 +2,7 @@
 
 ghost use Rattle.std.specs.Prelude.{true, false, ◌≡◌, ◌+◌, ◌<◌, ◌≤◌, length, drop, IfSome};
 ghost use Rattle.std.specs.List.{position_or_len};
-ghost use Rattle.dfg_tokens.specs.Tokens.{is_space, is_letter, mark_of, byte_of, ends_name, ends_line, closes, closing, piece_at, text_at, name_at, mark_or_stray, IsWithin, IsWarned};
+ghost use Rattle.dfg_tokens.specs.Tokens.{is_space, is_letter, mark_of, byte_of, ends_name, ends_line, ends_text, text_length, piece_at, text_at, name_at, mark_or_stray, IsWithin, IsWarned};
 
 use crate::word::{Word, word_of};
 
@@ -127,7 +127,7 @@ fn comment_len(bytes: &[u8]) -> usize
 
 /// Whether `*}` begins with this byte.
 fn is_closed(first: u8, after: &[u8]) -> bool
-    ensures { result ≡ closes first after.now }
+    ensures { result ≡ ends_text first after.now }
 {
     match after {
         [] => false,
@@ -137,7 +137,7 @@ fn is_closed(first: u8, after: &[u8]) -> bool
 
 /// How many bytes stand before the first `*}`.
 fn before_closing(bytes: &[u8]) -> Option<usize>
-    ensures is { result ≡ closing bytes.now }
+    ensures is { result ≡ text_length bytes.now }
     ensures within { IfSome result (λ n. n + 2 ≤ length bytes.now) }
 {
     let mut rest = bytes;
@@ -156,7 +156,7 @@ fn before_closing(bytes: &[u8]) -> Option<usize>
 /// nothing is searched.
 #[tactic(auto, unfolding(crate::specs::Tokens::text_at), using(crate::proofs::Texts::unclosed_text))]
 fn text_piece(rest: &[u8], may_close: bool) -> Piece
-    requires { may_close ≡ false → closing rest.now ≡ None }
+    requires { may_close ≡ false → text_length rest.now ≡ None }
     ensures is { result ≡ text_at rest.now }
     ensures within { (0 < result.len) × (result.len ≤ length rest.now + 1) }
 {
@@ -257,7 +257,7 @@ pub fn may_still_close(may_close: bool, bytes: &[u8], next: Piece) -> bool
 #[tactic(auto, using(crate::proofs::Texts::text_unclosed))]
 fn is_unclosed(bytes: &[u8], next: Piece) -> bool
     requires { next ≡ piece_at bytes.now }
-    ensures { result ≡ true → (closing (drop 2 bytes.now) ≡ None) × (next.len ≡ 1) }
+    ensures { result ≡ true → (text_length (drop 2 bytes.now) ≡ None) × (next.len ≡ 1) }
 {
     match bytes {
         [b'{', b'*', ..] => next.len == 1,

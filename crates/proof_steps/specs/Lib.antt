@@ -5,3 +5,4 @@ pub mod SplitLaws
 pub mod Parents
 pub mod Checked
 pub mod Covering
+pub mod StepLaws

@@ -5,8 +5,8 @@ use Rattle.std.specs.Fmt.{decimal}
 use Rattle.spl_terms.specs.declared.term.Symbol.{Symbol}
 use Rattle.spl_terms.specs.declared.term.Term.{Term, Var, App}
 use Rattle.spl_terms.specs.TermLaws.{fold-Var, fold-App}
-use Rattle.spl_symbols.specs.Symbols.{Declared}
-use Rattle.proof_text.specs.Texts.{term_text, text_step, applied_text, name_of}
+use Rattle.spl_symbols.specs.Symbols.{Declared, name_of}
+use Rattle.proof_text.specs.Texts.{term_text, text_step, applied_text}
 
 pub text-Var : (signature : List Declared) (v : ℕ) → term_text signature (Var v) ≡ codes "?" ++ decimal v
 text-Var signature v = fold-Var (text_step signature) v

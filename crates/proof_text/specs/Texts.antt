@@ -1,5 +1,5 @@
 -- The text of a proof list. Names are those of the symbols, by number, and numbers are decimal.
-use Rattle.std.specs.Prelude.{ℕ, ◌+◌, Bool, true, false, if◌then◌else◌, List, [], ◌∷◌, ◌++◌, map, codes, slice_get, Option, Some, None, option_map, unwrap_or}
+use Rattle.std.specs.Prelude.{ℕ, ◌+◌, Bool, true, false, if◌then◌else◌, List, [], ◌∷◌, ◌++◌, map, codes, Option, Some, None}
 use Rattle.std.specs.List.{flat_map}
 use Rattle.std.specs.Fmt.{decimal}
 use Rattle.spl_terms.specs.declared.term.Term.{Term, Term-F, fold-Term}
@@ -11,7 +11,7 @@ use Rattle.spl_terms.specs.declared.clause.Part.TheVariants.{Constraint, Anteced
 use Rattle.spl_terms.specs.declared.clause.Clause.{Clause}
 use Rattle.spl_terms.specs.declared.clause.Spot.{Spot}
 use Rattle.spl_truth.specs.declared.replace.Subst.{Subst}
-use Rattle.spl_symbols.specs.Symbols.{Declared}
+use Rattle.spl_symbols.specs.Symbols.{Declared, name_of}
 use Rattle.dep_sets.specs.declared.deps.Assumption.{Assumption}
 use Rattle.proof_steps.specs.declared.step.Rule.{Rule}
 use Rattle.proof_steps.specs.declared.step.Rule.TheVariants.{Input, Resolve, Factor, Paramodulate, Reflex, EqFactor, Assume, CaseLeft, CaseRight, CaseBoth}
@@ -37,10 +37,6 @@ separated first [] = []
 separated first (t ∷ ts) = separator first ++ t ++ separated false ts
 
 -- ---- clauses
-
--- the name of the symbol with this number; nothing past the last
-abbrev pub name_of : List Declared → ℕ → List ℕ
-name_of signature number = unwrap_or (option_map (λ d. d.name) (slice_get signature number)) []
 
 abbrev pub closing : {A : Type 0} → List A → List ℕ
 closing [] = []
@@ -103,6 +99,10 @@ place_text label number = label ++ decimal number
 abbrev pub terms_text : List Declared → List ℕ → List Term → List ℕ
 terms_text signature label terms = label ++ bracketed (term_text signature) terms
 
+-- the same, and a comma
+abbrev pub last_terms_text : List Declared → List ℕ → List Term → List ℕ
+last_terms_text signature label terms = terms_text signature label terms ++ codes ","
+
 -- the places of two atoms that are resolved, with the second one's part
 abbrev pub resolved_text : ℕ → Part → ℕ → List ℕ
 resolved_text i part j = place_text (codes "i:") i ++ codes ",part:" ++ part_text part ++ place_text (codes ",j:") j
@@ -111,6 +111,10 @@ resolved_text i part j = place_text (codes "i:") i ++ codes ",part:" ++ part_tex
 abbrev pub spot_text : Spot → List ℕ
 spot_text spot = codes ",part:" ++ part_text spot.part ++ place_text (codes ",j:") spot.place ++ codes ",pos:" ++ bracketed decimal spot.path
 
+-- the place of the equation, how it is read, and where a term is replaced by it
+abbrev pub replaced_text : ℕ → Bool → Spot → List ℕ
+replaced_text i right spot = place_text (codes "i:") i ++ codes ",dir:" ++ direction_text right ++ spot_text spot
+
 -- the places of two equations that are factored, and how each is read
 abbrev pub factored_text : ℕ → Bool → ℕ → Bool → List ℕ
 factored_text i i_right j j_right =
@@ -118,18 +122,21 @@ factored_text i i_right j j_right =
 
 -- the substitutions of two parents, and a comma
 abbrev pub substitutions_text : List Declared → Subst → Subst → List ℕ
-substitutions_text signature s t = terms_text signature (codes ",s:") s.terms ++ terms_text signature (codes ",t:") t.terms ++ codes ","
+substitutions_text signature s t = terms_text signature (codes ",s:") s.terms ++ last_terms_text signature (codes ",t:") t.terms
+
+-- the side that is assumed, the place of the negated atom where it is one, and a comma
+abbrev pub assumed_text : ℕ → Option ℕ → List ℕ
+assumed_text side negated = place_text (codes "side:") side ++ codes ",neg:" ++ negated_text negated ++ codes ","
 
 -- the pairs of the rule, each with a comma after it
 abbrev pub pairs_text : List Declared → Rule → List ℕ
 pairs_text signature (Input number) = place_text (codes "no:") number ++ codes ","
 pairs_text signature (Resolve i part j s t) = resolved_text i part j ++ substitutions_text signature s t
-pairs_text signature (Factor s) = terms_text signature (codes "s:") s.terms ++ codes ","
-pairs_text signature (Paramodulate i right spot s t) =
-    place_text (codes "i:") i ++ codes ",dir:" ++ direction_text right ++ spot_text spot ++ substitutions_text signature s t
-pairs_text signature (Reflex j s) = place_text (codes "j:") j ++ terms_text signature (codes ",s:") s.terms ++ codes ","
-pairs_text signature (EqFactor i i_right j j_right s) = factored_text i i_right j j_right ++ terms_text signature (codes ",s:") s.terms ++ codes ","
-pairs_text signature (Assume side negated) = place_text (codes "side:") side ++ codes ",neg:" ++ negated_text negated ++ codes ","
+pairs_text signature (Factor s) = last_terms_text signature (codes "s:") s.terms
+pairs_text signature (Paramodulate i right spot s t) = replaced_text i right spot ++ substitutions_text signature s t
+pairs_text signature (Reflex j s) = place_text (codes "j:") j ++ last_terms_text signature (codes ",s:") s.terms
+pairs_text signature (EqFactor i i_right j j_right s) = factored_text i i_right j j_right ++ last_terms_text signature (codes ",s:") s.terms
+pairs_text signature (Assume side negated) = assumed_text side negated
 pairs_text signature CaseLeft = []
 pairs_text signature CaseRight = []
 pairs_text signature CaseBoth = []

@@ -1,8 +1,8 @@
 //! The text of a line and of the whole list.
 ghost use Rattle.std.specs.Prelude.{◌≡◌, ◌<◌, ◌^◌, ◌++◌, length, IfOk, OnOk};
-ghost use Rattle.proof_text.specs.Texts.{factored_text, line_text, lines_text, pairs_text, proof_text, resolved_text, spot_text, substitutions_text};
+ghost use Rattle.proof_text.specs.Texts.{assumed_text, factored_text, line_text, lines_text, pairs_text, proof_text, replaced_text, resolved_text, spot_text, substitutions_text};
 
-use crate::lists::{push_clause, push_list, push_terms};
+use crate::lists::{push_clause, push_last_terms, push_list, push_terms};
 use crate::words::{
     push_bytes, push_direction, push_negated, push_number, push_part, push_place, push_rule,
 };
@@ -44,6 +44,38 @@ fn push_spot(
     push_list(alloc, out, signature, spot.path.as_slice())
 }
 
+/// Appends the place of the equation, how it is read, and where a term is replaced by it.
+fn push_replaced(
+    alloc: Global,
+    out: &mut Vec<u8>,
+    signature: &Signature,
+    i: u32,
+    right_to_left: bool,
+    spot: &Spot,
+) -> Result<(), AllocError>
+    ensures { OnOk result (out.new.items ≡ out.old.items ++ replaced_text i right_to_left spot.now) }
+{
+    push_place(alloc, out, b"i:", i)?;
+    push_bytes(out, b",dir:")?;
+    push_direction(out, right_to_left)?;
+    push_spot(alloc, out, signature, spot)
+}
+
+/// Appends the side that is assumed, the place of the negated atom where it is one, and a comma.
+fn push_assumed(
+    alloc: Global,
+    out: &mut Vec<u8>,
+    side: u32,
+    negated: Option<u32>,
+) -> Result<(), AllocError>
+    ensures { OnOk result (out.new.items ≡ out.old.items ++ assumed_text side negated) }
+{
+    push_place(alloc, out, b"side:", side)?;
+    push_bytes(out, b",neg:")?;
+    push_negated(alloc, out, negated)?;
+    push_bytes(out, b",")
+}
+
 /// Appends the places of the two equations that are factored, from 0, and how each is read.
 fn push_factored(
     alloc: Global,
@@ -74,8 +106,7 @@ fn push_substitutions(
     ensures { OnOk result (out.new.items ≡ out.old.items ++ substitutions_text signature.now s.now t.now) }
 {
     push_terms(alloc, out, signature, b",s:", s.terms.as_slice())?;
-    push_terms(alloc, out, signature, b",t:", t.terms.as_slice())?;
-    push_bytes(out, b",")
+    push_last_terms(alloc, out, signature, b",t:", t.terms.as_slice())
 }
 
 /// Appends the pairs of the rule, each with a comma after it.
@@ -96,10 +127,7 @@ fn push_pairs(
             push_resolved(alloc, out, *i, *part, *j)?;
             push_substitutions(alloc, out, signature, s, t)
         }
-        Rule::Factor { s } => {
-            push_terms(alloc, out, signature, b"s:", s.terms.as_slice())?;
-            push_bytes(out, b",")
-        }
+        Rule::Factor { s } => push_last_terms(alloc, out, signature, b"s:", s.terms.as_slice()),
         Rule::Paramodulate {
             i,
             right_to_left,
@@ -107,16 +135,12 @@ fn push_pairs(
             s,
             t,
         } => {
-            push_place(alloc, out, b"i:", *i)?;
-            push_bytes(out, b",dir:")?;
-            push_direction(out, *right_to_left)?;
-            push_spot(alloc, out, signature, spot)?;
+            push_replaced(alloc, out, signature, *i, *right_to_left, spot)?;
             push_substitutions(alloc, out, signature, s, t)
         }
         Rule::Reflex { j, s } => {
             push_place(alloc, out, b"j:", *j)?;
-            push_terms(alloc, out, signature, b",s:", s.terms.as_slice())?;
-            push_bytes(out, b",")
+            push_last_terms(alloc, out, signature, b",s:", s.terms.as_slice())
         }
         Rule::EqFactor {
             i,
@@ -126,15 +150,9 @@ fn push_pairs(
             s,
         } => {
             push_factored(alloc, out, *i, *i_right, *j, *j_right)?;
-            push_terms(alloc, out, signature, b",s:", s.terms.as_slice())?;
-            push_bytes(out, b",")
+            push_last_terms(alloc, out, signature, b",s:", s.terms.as_slice())
         }
-        Rule::Assume { side, negated } => {
-            push_place(alloc, out, b"side:", *side)?;
-            push_bytes(out, b",neg:")?;
-            push_negated(alloc, out, *negated)?;
-            push_bytes(out, b",")
-        }
+        Rule::Assume { side, negated } => push_assumed(alloc, out, *side, *negated),
         Rule::CaseLeft | Rule::CaseRight | Rule::CaseBoth => Ok(()),
     }
 }

@@ -3,7 +3,7 @@ ghost use Rattle.std.specs.Prelude.{◌≡◌, List, ℕ, ◌++◌, ◌∷◌, O
 ghost use Rattle.std.specs.List.{flat_map};
 ghost use Rattle.std.specs.Fmt.{decimal};
 ghost use Rattle.spl_symbols.specs.Symbols.{Declared};
-ghost use Rattle.proof_text.specs.Texts.{assumption_text, atom_text, bracketed, clause_text, commas, term_text, terms_text};
+ghost use Rattle.proof_text.specs.Texts.{assumption_text, atom_text, bracketed, clause_text, commas, last_terms_text, term_text, terms_text};
 
 use crate::words::{push_atom, push_bytes, push_number, push_term};
 use dep_sets::Assumption;
@@ -139,6 +139,20 @@ pub fn push_terms(
 {
     push_bytes(out, label)?;
     push_list(alloc, out, signature, terms)
+}
+
+/// Appends a label, the terms in brackets and a comma.
+pub fn push_last_terms(
+    alloc: Global,
+    out: &mut Vec<u8>,
+    signature: &Signature,
+    label: &[u8],
+    terms: &[Term],
+) -> Result<(), AllocError>
+    ensures { OnOk result (out.new.items ≡ out.old.items ++ last_terms_text signature.now label.now terms.now) }
+{
+    push_terms(alloc, out, signature, label, terms)?;
+    push_bytes(out, b",")
 }
 
 /// Appends the three parts of the clause.

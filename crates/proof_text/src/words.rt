@@ -1,7 +1,8 @@
 //! Words, numbers, names and terms.
 ghost use Rattle.std.specs.Prelude.{◌≡◌, ◌++◌, [], ◌∷◌, ◌⊎◌, codes, OnOk, OnErr, map};
 ghost use Rattle.std.specs.Fmt.{decimal};
-ghost use Rattle.proof_text.specs.Texts.{applied_text, atom_text, closing, direction_text, name_of, negated_text, part_text, place_text, rule_text, separator, term_text};
+ghost use Rattle.spl_symbols.specs.Symbols.{name_of};
+ghost use Rattle.proof_text.specs.Texts.{applied_text, atom_text, closing, direction_text, negated_text, part_text, place_text, rule_text, separator, term_text};
 
 use proof_steps::Rule;
 use spl_symbols::Signature;
@@ -99,7 +100,8 @@ fn push_applied(
     number: u32,
     args: &[Term],
 ) -> Result<(), AllocError>
-    ensures { OnOk result (out.new.items ≡ out.old.items ++ applied_text (name_of signature.now number) (map (term_text signature.now) args.now)) }
+    ensures { OnOk result (out.new.items ≡ out.old.items
+        ++ applied_text (name_of signature.now number) (map (term_text signature.now) args.now)) }
 {
     push_name(out, signature, number)?;
     for (k, term) in args.iter().enumerate() {

@@ -2,6 +2,7 @@
 use Rattle.std.specs.Prelude.{MatchOption}
 use Rattle.std.proofs.Common.{◌≡◌, ℕ, zero, suc, ◌+◌, ◌-◌, ◌<◌, ◌≤◌, min, ◌⊎◌, inl, inr, Bool, true, false, cond, ◌&&◌, eqb, List, [], ◌∷◌, ◌++◌, length, replicate, take, get_or, Option, Some, None, refl, sym, ◌∙◌, ap, arith, length-append, append_assoc, eq-eqb, subst}
 use Rattle.std.proofs.lemmas.Bool.{cases_Bool, and_parts, and_from, or_cases, or_right, cond-true, cond-false, ne_eqb, eqb-true, cases_lt, false≢true}
+use Rattle.std.proofs.Math.Bool.{and-false}
 use Rattle.std.proofs.lemmas.List.{append-nil}
 use Rattle.std.proofs.lemmas.Option.{slice_get-get_or}
 use Rattle.std.specs.List.{slice_get}
@@ -17,8 +18,9 @@ use Rattle.case_journal.specs.Facts.{is_number, IsEmptyAt, IsLive}
 use Rattle.case_journal.specs.Legal.{IsAsked, IsLegalJournal, IsFirstEmpty}
 use Rattle.split_tree.specs.Caches.{homes, homes_by, at_home, own_empty, empties, or_first, noted_empty, noted_empties, IsHome, AreHomes, smaller}
 use Rattle.split_tree.proofs.Lists.{upto-same, upto-changed, upto-more}
+use Rattle.case_journal.specs.FactLaws.{number_is}
 use Rattle.case_journal.specs.ListLaws.{numbered_get, length-input_lines}
-use Rattle.split_tree.proofs.Places.{HasLines-legal}
+use Rattle.split_tree.proofs.Places.{AddsLines-legal}
 use Rattle.case_journal.specs.PathLaws.{on_path-self, on_path_root, nodes_some}
 use Rattle.case_journal.specs.BranchLaws.{climbs}
 use Rattle.split_tree.proofs.Past.{length-homes, length-homes_by, homes-push}
@@ -46,10 +48,6 @@ own-snoc node n (x ∷ hs) (y ∷ ls) h l long =
     let e : n + 1 + length hs ≡ n + suc (length hs) = omega arith in
     ap (cond c (Some n)) (own-snoc node (n + 1) hs ls h l (omega arith)) ∙ four c d n (n + 1 + length hs) (n + suc (length hs)) o e
 
-and_no : (x : Bool) → (x && false) ≡ false
-and_no true = refl
-and_no false = refl
-
 noted-one : (m : ℕ) (hs : List (Option ℕ)) (ls : List Line) (h : Option ℕ) (l : Line) → length hs ≡ length ls → noted_empty h l (1 + length hs) (empties m hs ls) ≡ empties m (hs ++ h ∷ []) (ls ++ l ∷ [])
 noted-one m hs ls None l long = upto-same (λ node. own_empty node 1 hs ls) (λ node. own_empty node 1 (hs ++ None ∷ []) (ls ++ l ∷ [])) m (λ k. sym (own-snoc k 1 hs ls None l long))
 noted-one m hs ls (Some d) l long =
@@ -65,7 +63,7 @@ noted-one m hs ls (Some d) l long =
           (λ j apart. own-snoc j 1 hs ls (Some d) l long ∙ cond-false (eqb d j && is) (or_first n (f j)) (f j) (ap (λ b. b && is) (ne_eqb d j (λ q. apart (sym q)))))
       | inr other ↦
           cond-false is (changed d n) (empties m hs ls) other
-          ∙ upto-same f g m (λ k. sym (own-snoc k 1 hs ls (Some d) l long ∙ cond-false (eqb d k && is) (or_first n (f k)) (f k) (ap (λ b. eqb d k && b) other ∙ and_no (eqb d k))))
+          ∙ upto-same f g m (λ k. sym (own-snoc k 1 hs ls (Some d) l long ∙ cond-false (eqb d k && is) (or_first n (f k)) (f k) (ap (λ b. eqb d k && b) other ∙ and-false (eqb d k))))
     ]
   where
     changed : ℕ → ℕ → List (Option ℕ)
@@ -138,7 +136,7 @@ empties_after s past legal e asked =
     let m = nodes past + nodes_of e.event in
     let long = length-homes s past legal (sym (length-input_lines 1 s.input)) in
     ap (noted_empties more lines (1 + steps s past)) (sym (empties-more (nodes past) (nodes_of e.event) hs (ledger s past) (homes_low s past legal)))
-    ∙ (noted-all m (1 + steps s past) hs more (ledger s past) lines long (length-homes_by e.event (nodes past) (HasLines-legal s past e.by e.event asked)) (omega arith)
+    ∙ (noted-all m (1 + steps s past) hs more (ledger s past) lines long (length-homes_by e.event (nodes past) (AddsLines-legal s past e.by e.event asked)) (omega arith)
     ∙ ap (λ xs. empties m xs (ledger s past ++ lines)) (sym (homes-push s e past)))
 
 -- ---- what is found
@@ -150,10 +148,6 @@ pub record IsOwn (node n i : ℕ) (hs : List (Option ℕ)) (ls : List Line) : Ty
   pub line : Line
   pub found : slice_get ls (i - n) ≡ Some line
   pub empty : is_empty line.stated.clause ≡ true
-
-number_is : (o : Option ℕ) (node : ℕ) → is_number o node ≡ true → o ≡ Some node
-number_is None node h = cc
-number_is (Some d) node h = ap Some (eqb-true d node h)
 
 pub own_is : (node n i : ℕ) (hs : List (Option ℕ)) (ls : List Line) → own_empty node n hs ls ≡ Some i → IsOwn node n i hs ls
 own_is node n i [] ls h = cc

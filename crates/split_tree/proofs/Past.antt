@@ -9,10 +9,10 @@ use Rattle.case_journal.specs.declared.event.Event.TheVariants.{Publish, Split}
 use Rattle.case_journal.specs.Journal.{Setting, lines_of, nodes_of, nodes, steps, ledger}
 use Rattle.case_journal.specs.Facts.{has_stopped, is_stop, waiting, cost_of}
 use Rattle.case_journal.specs.Legal.{IsLegalJournal}
-use Rattle.split_tree.specs.Caches.{past_of, branches, branches_by, homes, homes_by, HasLines, spots, spots_upto, states, states_by, seats, seat_by}
+use Rattle.split_tree.specs.Caches.{past_of, branches, branches_by, homes, homes_by, AddsLines, spots, spots_upto, states, states_by, seats, seat_by}
 use Rattle.proof_steps.specs.Spots.{changed_at}
 use Rattle.case_journal.specs.PlaceLaws.{steps_more}
-use Rattle.split_tree.proofs.Places.{HasLines-legal}
+use Rattle.split_tree.proofs.Places.{AddsLines-legal}
 
 pub past_of-push : (xs : List Entry) (e : Entry) → past_of (xs ++ e ∷ []) ≡ e ∷ past_of xs
 unfolding past_of
@@ -63,7 +63,7 @@ unfolding branches
 length-branches [] = refl
 length-branches (e ∷ past) = omega (arith, length-append (branches past) (branches_by e.event), length-branches past, length-branches_by e.event)
 
-pub length-homes_by : (ev : Event) (count : ℕ) → HasLines ev → length (homes_by ev count) ≡ length (lines_of ev)
+pub length-homes_by : (ev : Event) (count : ℕ) → AddsLines ev → length (homes_by ev count) ≡ length (lines_of ev)
 length-homes_by (Publish node chain put_off) count h = omega (arith, length-append (replicate (length chain - 1) None) (Some node ∷ []), length-replicate (length chain - 1) (let n : Option ℕ = None in n))
 length-homes_by (Split node lines put_off) count h = omega (arith, length-replicate (length lines - 1) (Some (count + 1)))
 length-homes_by _ count h = refl
@@ -71,7 +71,7 @@ length-homes_by _ count h = refl
 pub length-homes : (s : Setting) (past : List Entry) → IsLegalJournal s past → length s.input ≡ length (ledger s []) → length (homes s past) ≡ steps s past
 unfolding homes
 length-homes s [] legal long = length-replicate (length s.input) (Some 0) ∙ long
-length-homes s (e ∷ past) legal long = omega (arith, length-append (homes s past) (homes_by e.event (nodes past)), length-homes s past legal.1 long, length-homes_by e.event (nodes past) (HasLines-legal s past e.by e.event legal.0.asked), steps_more s past e)
+length-homes s (e ∷ past) legal long = omega (arith, length-append (homes s past) (homes_by e.event (nodes past)), length-homes s past legal.1 long, length-homes_by e.event (nodes past) (AddsLines-legal s past e.by e.event legal.0.asked), steps_more s past e)
 
 pub nodes_cost : (past : List Entry) (w : ℕ) (ev : Event) → nodes_of ev ≤ 2 * cost_of past w ev
 nodes_cost past w (Split node lines put_off) = omega arith

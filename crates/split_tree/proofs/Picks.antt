@@ -11,7 +11,7 @@ use Rattle.split_tree.specs.declared.caches.Retired.{Retired}
 use Rattle.case_journal.specs.Journal.{Setting, steps, lines_of, AreSmall}
 use Rattle.case_journal.specs.Facts.{cost_of, chosen}
 use Rattle.case_journal.specs.Legal.{IsAsked, IsLegalJournal}
-use Rattle.split_tree.specs.Caches.{retired, retired_at, retired_by, pushed, with_newest, IsNumbered, noted, newest_upto}
+use Rattle.split_tree.specs.Caches.{retired, retired_at, retired_by, pushed, with_newest, IsNumbered, with_retired, newest_upto}
 use Rattle.split_tree.proofs.Lists.{AreNumbered, newest-note, newest-more}
 use Rattle.case_journal.specs.PlaceLaws.{steps_more}
 
@@ -74,14 +74,14 @@ retired_cost past w (Activate node) at rs = activated_cost node rs (at node)
 retired_cost past w (Split node lines put_off) at rs = omega arith
 retired_cost past w _ at rs = omega arith
 
-newest_noted : (n m : ℕ) (rs : List Retired) (o : Option Retired) → AreNumbered n rs → IsNumbered o n → noted o (length rs) (newest_upto n rs) ++ replicate m None ≡ newest_upto (n + m) (with_newest o rs)
+newest_noted : (n m : ℕ) (rs : List Retired) (o : Option Retired) → AreNumbered n rs → IsNumbered o n → with_retired o (length rs) (newest_upto n rs) ++ replicate m None ≡ newest_upto (n + m) (with_newest o rs)
 newest_noted n m rs None each h = sym (newest-more n m rs each)
 newest_noted n m rs (Some r) each h =
     ap (λ xs. xs ++ replicate {A = Option ℕ} m None) (newest-note n rs r h.0) ∙ sym (newest-more n m (r ∷ rs) (h, each))
 
 -- the places of the last records after an event
 pub newest_after : (s : Setting) (past : List Entry) → IsLegalJournal s past → (e : Entry) → IsAsked s past e.by e.event
-    → noted (retired_by e.event (chosen past) (retired past)) (length (retired past)) (newest_upto (steps s past) (retired past)) ++ replicate (length (lines_of e.event)) None ≡ newest_upto (steps s (e ∷ past)) (retired (e ∷ past))
+    → with_retired (retired_by e.event (chosen past) (retired past)) (length (retired past)) (newest_upto (steps s past) (retired past)) ++ replicate (length (lines_of e.event)) None ≡ newest_upto (steps s (e ∷ past)) (retired (e ∷ past))
 unfolding retired
 newest_after s past legal e asked =
     let rs = retired past in

@@ -6,12 +6,12 @@ use Rattle.case_journal.specs.declared.event.Event.TheVariants.{Choose, Publish,
 use Rattle.case_journal.specs.Journal.{Setting, nodes}
 use Rattle.case_journal.specs.Legal.{IsAsked, IsLegalJournal}
 use Rattle.case_journal.specs.PlaceLaws.{claimed_within, one_line, two_lines, split_there}
-use Rattle.split_tree.specs.Caches.{HasLines, IsNodeOf}
+use Rattle.split_tree.specs.Caches.{AddsLines, IsNodeOf}
 
-pub HasLines-legal : (s : Setting) (past : List Entry) (w : ℕ) (ev : Event) → IsAsked s past w ev → HasLines ev
-HasLines-legal s past w (Publish node chain put_off) p = omega (arith, one_line s past w node chain put_off p.asked)
-HasLines-legal s past w (Split node lines put_off) p = omega (arith, two_lines s past w node lines put_off p.asked)
-HasLines-legal s past w _ p = tt
+pub AddsLines-legal : (s : Setting) (past : List Entry) (w : ℕ) (ev : Event) → IsAsked s past w ev → AddsLines ev
+AddsLines-legal s past w (Publish node chain put_off) p = omega (arith, one_line s past w node chain put_off p.asked)
+AddsLines-legal s past w (Split node lines put_off) p = omega (arith, two_lines s past w node lines put_off p.asked)
+AddsLines-legal s past w _ p = tt
 
 -- a node whose state the event changes is there
 pub node_there : (s : Setting) (past : List Entry) → IsLegalJournal s past → (w : ℕ) (ev : Event) → IsAsked s past w ev → IsNodeOf ev (nodes past)

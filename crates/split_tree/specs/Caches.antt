@@ -43,10 +43,10 @@ homes s [] = replicate (length s.input) (Some 0)
 homes s (e ∷ past) = homes s past ++ homes_by e.event (nodes past)
 
 -- an event that adds to the ledger adds some step
-abbrev pub HasLines : Event → Type 0
-HasLines (Publish node chain put_off) = 0 < length chain
-HasLines (Split node lines put_off) = 0 < length lines
-HasLines _ = Unit {0}
+abbrev pub AddsLines : Event → Type 0
+AddsLines (Publish node chain put_off) = 0 < length chain
+AddsLines (Split node lines put_off) = 0 < length lines
+AddsLines _ = Unit {0}
 
 -- whether a clause with this home is listed at a node whose path is `on`
 abbrev pub at_home : (ℕ → Bool) → Option ℕ → Bool
@@ -214,9 +214,9 @@ abbrev pub newest_upto : ℕ → List Retired → List (Option ℕ)
 newest_upto n rs = upto (λ k. newest (suc k) rs) n
 
 -- the record is put in the place
-abbrev pub noted : Option Retired → ℕ → List (Option ℕ) → List (Option ℕ)
-noted None place xs = xs
-noted (Some r) place xs = changed_at (r.clause - 1) (λ o. Some place) xs
+abbrev pub with_retired : Option Retired → ℕ → List (Option ℕ) → List (Option ℕ)
+with_retired None place xs = xs
+with_retired (Some r) place xs = changed_at (r.clause - 1) (λ o. Some place) xs
 
 -- the clause has one of so many numbers
 abbrev pub IsNumbered : Option Retired → ℕ → Type 0

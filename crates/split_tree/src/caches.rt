@@ -5,7 +5,7 @@ ghost use Rattle.case_journal.specs.Journal.{lines_of, count_of, nodes_of, choic
 ghost use Rattle.proof_steps.specs.Spots.{changed_at};
 ghost use Rattle.case_journal.specs.Paths.{branch_to, replaced, leaves_by};
 ghost use Rattle.case_journal.specs.Ending.{or_else};
-ghost use Rattle.split_tree.specs.Caches.{branches_by, homes_by, spots_upto, or_first, noted_empty, noted_empties, IsHome, AreHomes, HasLines, HasFewChoices, IsNodeOf, state_by, with_children, states_by, seat_by, tally_by, weights, pushed, noted, IsNumbered};
+ghost use Rattle.split_tree.specs.Caches.{branches_by, homes_by, spots_upto, or_first, noted_empty, noted_empties, IsHome, AreHomes, AddsLines, HasFewChoices, IsNodeOf, state_by, with_children, states_by, seat_by, tally_by, weights, pushed, with_retired, IsNumbered};
 
 use case_journal::{Branch, End, Event, count_of, subject};
 use dep_sets::Assumption;
@@ -96,7 +96,7 @@ pub fn add_copies<T: Copy>(items: &mut Vec<T>, item: T, count: usize)
 pub fn add_homes(homes: &mut Vec<Option<u32>>, event: &Event, nodes: u32)
     requires room { vec_len homes.old + length (lines_of event.now) ≤ vec_capacity homes.old }
     requires nodes { nodes + nodes_of event.now < 2 ^ 32 }
-    requires some { HasLines event.now }
+    requires some { AddsLines event.now }
     ensures items { homes.new.items ≡ homes.old.items ++ homes_by event.now nodes }
     ensures capacity { vec_capacity homes.new ≡ vec_capacity homes.old }
 {
@@ -408,7 +408,7 @@ pub fn add_retired(list: &mut Vec<Retired>, retired: Option<Retired>)
 /// Notes that the newest record of the clause that was activated or split, if any, has this place.
 pub fn note_newest(newest: &mut Vec<Option<usize>>, retired: Option<Retired>, place: usize)
     requires { IsNumbered retired (vec_len newest.old) }
-    ensures items { newest.new.items ≡ noted retired place newest.old.items }
+    ensures items { newest.new.items ≡ with_retired retired place newest.old.items }
     ensures len { vec_len newest.new ≡ vec_len newest.old }
     ensures capacity { vec_capacity newest.new ≡ vec_capacity newest.old }
 {

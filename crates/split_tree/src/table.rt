@@ -226,7 +226,8 @@ impl Table {
         requires some_workers { 1 ≤ workers }
         requires few_workers { workers ≤ 8 }
         ensures past { IfOk result (λ t. t.past ≡ []) }
-        ensures setting { IfOk result (λ t. t.setting ≡ record { input = input.now; limits = limits; workers = workers }) }
+        ensures setting { IfOk result (λ t. t.setting
+            ≡ record { input = input.now; limits = limits; workers = workers }) }
     {
         limits.fit();
         let opening = input_lines(alloc, input)?;
@@ -366,7 +367,8 @@ impl Table {
     /// The record of the clause that the event activates or splits.
     fn retires(&self, event: &Event) -> Option<Retired>
         requires node { IsNodeOf event.now (nodes self.now.past) }
-        requires clause { IsNumbered (retired_by event.now (chosen self.now.past) (retired self.now.past)) (steps self.now.setting self.now.past) }
+        requires clause { IsNumbered (retired_by event.now (chosen self.now.past) (retired self.now.past))
+            (steps self.now.setting self.now.past) }
         ensures { result ≡ retired_by event.now (chosen self.now.past) (retired self.now.past) }
     {
         match event {
@@ -429,7 +431,8 @@ impl Table {
     /// node's path alone. Where no empty clause was published at a dead node itself, so that it is discarded, that
     /// empty clause depends on neither side of the split that made the node. It does nothing when it runs.
     pub fn dead_nodes_are_closed(&self)
-        ensures { (m : ℕ) → m < nodes self.now.past → IsDead self.now.setting self.now.past m → IsClosed self.now.setting self.now.past m }
+        ensures { (m : ℕ) → m < nodes self.now.past → IsDead self.now.setting self.now.past m
+            → IsClosed self.now.setting self.now.past m }
     {
         self.journal_is_legal();
     }
@@ -438,7 +441,8 @@ impl Table {
     /// `assumption` answer none exactly at the root. It does nothing when it runs.
     pub fn the_root_alone_hangs_nowhere(&self)
         ensures root { branch self.now.past 0 ≡ None }
-        ensures others { (m : ℕ) → 0 < m → m < nodes self.now.past → IsSomeAnd (branch self.now.past m) (λ b. b.parent < m) }
+        ensures others { (m : ℕ) → 0 < m → m < nodes self.now.past
+            → IsSomeAnd (branch self.now.past m) (λ b. b.parent < m) }
     {
         self.journal_is_legal();
     }
@@ -449,7 +453,8 @@ impl Table {
     pub fn dead_root_has_ended(&self)
         requires settled { IsSettled self.now.setting self.now.past }
         requires none { (m : ℕ) → ¬ IsClaimable self.now.setting self.now.past m }
-        requires idle { (w m : ℕ) → 1 ≤ w → w ≤ self.now.setting.workers → ¬ Holds self.now.setting self.now.past w m }
+        requires idle { (w m : ℕ) → 1 ≤ w → w ≤ self.now.setting.workers
+            → ¬ Holds self.now.setting self.now.past w m }
         ensures { IsSome (reason self.now.setting self.now.past) }
     {
         self.journal_is_legal();

@@ -1,8 +1,8 @@
--- Lists that begin with one another, the entries of one seat, and lists of numbers.
-use Rattle.std.proofs.Common.{◌≡◌, ◌≢◌, ◌⊎◌, ℕ, ◌≤◌, ◌<◌, List, [], ◌∷◌, ◌++◌, length, cond, refl, sym, ap, ◌∙◌, subst, ⊎_elim, inl, inr, arith, ne_eqb, append_assoc, append-nil, length-append}
+-- Lists that begin with one another, and the entries of one seat.
+use Rattle.std.proofs.Common.{◌≡◌, ◌≢◌, ℕ, ◌≤◌, ◌<◌, List, [], ◌∷◌, ◌++◌, length, cond, refl, sym, ap, ◌∙◌, subst, arith, ne_eqb, append_assoc, append-nil, length-append}
 use Rattle.std.specs.Prelude.{All, ◌==◌}
 use Rattle.std.proofs.lemmas.List.Elements.{All-head, All-tail, All-append, filter-append}
-use Rattle.turn_cell.specs.Lists.{BeginsWith, entries_of, Appends, Among, IsOfSeats}
+use Rattle.turn_cell.specs.Lists.{BeginsWith, entries_of, Appends, IsOfSeats}
 
 module _ {E : Type 0} where
   pub begins_itself : (xs : List E) → BeginsWith xs xs
@@ -30,20 +30,6 @@ module _ {E : Type 0} where
   pub appends-others : (by : E → ℕ) (n m : ℕ) (less more : List E) → n ≢ m → Appends by m less more → entries_of by n more ≡ entries_of by n less
   appends-others by n m less more apart h =
       ap (entries_of by n) h.1 ∙ entries_of-append by n less h.0 ∙ ap (λ l. entries_of by n less ++ l) (entries_of-others by n m h.0 apart h.2) ∙ append-nil (entries_of by n less)
-
-pub among-append : (n : ℕ) (xs ys : List ℕ) → Among n (xs ++ ys) → Among n xs ⊎ Among n ys
-among-append n [] ys a = inr a
-among-append n (x ∷ xs) ys (inl e) = inl (inl e)
-among-append n (x ∷ xs) ys (inr a) = ⊎_elim (λ l. inl (inr l)) (λ r. inr r) (among-append n xs ys a)
-
-pub among_left : (n : ℕ) (xs ys : List ℕ) → Among n xs → Among n (xs ++ ys)
-among_left n [] ys a = absurd a
-among_left n (x ∷ xs) ys (inl e) = inl e
-among_left n (x ∷ xs) ys (inr a) = inr (among_left n xs ys a)
-
-pub among_right : (n : ℕ) (xs ys : List ℕ) → Among n ys → Among n (xs ++ ys)
-among_right n [] ys a = a
-among_right n (x ∷ xs) ys a = inr (among_right n xs ys a)
 
 module _ {E : Type 0} where
   pub begins_nothing : (xs : List E) → BeginsWith xs []

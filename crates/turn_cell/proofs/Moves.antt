@@ -10,7 +10,7 @@ use Rattle.atomic_table.specs.Table.{State, Me, Step, Act, keeps, takes, gives, 
 use Rattle.atomic_table.proofs.Lists.{set_else, exchanged}
 use Rattle.turn_cell.specs.declared.view.View.{View}
 use Rattle.turn_cell.specs.Lists.{BeginsWith, entries_of, Among, Appends, Continues, IsOfSeats}
-use Rattle.turn_cell.specs.Rule.{entered, refused, grown, outside, Fits, Holds, Sat, Enters, Stores, Leaves}
+use Rattle.turn_cell.specs.Rule.{entered, refused, grown, outside, Fits, IsConsistent, Sat, Enters, Stores, Leaves}
 use Rattle.turn_cell.proofs.Lists.{begins_nothing, begins_itself, begins_trans, appends-others, appends-ours}
 use Rattle.turn_cell.proofs.Views.{same_there, set_there, each_set}
 
@@ -28,7 +28,7 @@ module _ {T E G : Type 0} (told : T → List E) (by : E → ℕ) (set_of : T →
   St = State (Option T) V
 
   abbrev Rule : St → Type 0
-  Rule = Holds told by set_of seats
+  Rule = IsConsistent told by set_of seats
 
   abbrev some_or : G → Option G → G
   some_or d None = d

@@ -13,9 +13,10 @@ use Rattle.atomic_table.specs.Seated.{TableId}
 use Rattle.turn_cell.specs.declared.view.View.{View}
 use Rattle.turn_cell.specs.Lists.{BeginsWith, entries_of, Among, Continues, HasAllSeats, IsOfSeats, longer}
 use Rattle.turn_cell.specs.Seats.{Cell, SeatSeen, new_seat}
-use Rattle.turn_cell.specs.Rule.{AllApart, count_up, first_view, dealt_from, dealt, second, without_second, both, spent_view, Looks, cell_of, seat_seen, others, dealing, Fits, Holds, Sat, Sits}
+use Rattle.turn_cell.specs.Rule.{AllApart, count_up, first_view, dealt_from, dealt, second, without_second, both, spent_view, Looks, cell_of, seat_seen, others, dealing, Fits, IsConsistent, Sat, Sits}
 use Rattle.turn_cell.proofs.Moves.{elsewhere}
-use Rattle.turn_cell.proofs.Lists.{begins_nothing, begins_itself, begins_shorter, between, among-append, among_left}
+use Rattle.turn_cell.specs.ListLaws.{among-append, among_left}
+use Rattle.turn_cell.proofs.Lists.{begins_nothing, begins_itself, begins_shorter, between}
 use Rattle.turn_cell.proofs.Views.{among_from, apart_up, among_first, apart-append, each_snoc, each_set}
 
 module _ {T E G : Type 0} (told : T → List E) (by : E → ℕ) (set_of : T → G) (seats : ℕ) where
@@ -26,7 +27,7 @@ module _ {T E G : Type 0} (told : T → List E) (by : E → ℕ) (set_of : T →
   St = State (Option T) V
 
   abbrev Rule : St → Type 0
-  Rule = Holds told by set_of seats
+  Rule = IsConsistent told by set_of seats
 
   nothing : (xs : List E) → Continues by [] [] xs
   nothing xs = (begins_nothing xs, λ n a. absurd a)
@@ -240,7 +241,7 @@ count_more n m = rw (add-one m, add-one n) refl
 
 module _ {T E G : Type 0} (told : T → List E) (by : E → ℕ) (set_of : T → G) (seats : ℕ) where
   -- a seat is made of the first seat, which is seen as s
-  pub deals_as : (id n m : ℕ) (here : TableId) (c : Cell) (v : View E G) (x : G) → v.spent ≡ false → v.keeps ≡ v.number ∷ others v.keeps → seat_seen here v ≡ dealing c x n (m + 1) → Splits (Holds told by set_of seats) id v (dealt_from v) (dealt v)
+  pub deals_as : (id n m : ℕ) (here : TableId) (c : Cell) (v : View E G) (x : G) → v.spent ≡ false → v.keeps ≡ v.number ∷ others v.keeps → seat_seen here v ≡ dealing c x n (m + 1) → Splits (IsConsistent told by set_of seats) id v (dealt_from v) (dealt v)
   deals_as id n m here c v x live own is =
       deals told by set_of seats id v n (count_up (n + 1) m) live (ap (λ (s : SeatSeen E G). s.inside) is) (own ∙ ap (λ l. v.number ∷ l) (ap (λ (s : SeatSeen E G). s.joined) is ∙ count_more n m))
 
@@ -263,17 +264,17 @@ option_or d (Some x) = x
 
 module _ {T E G : Type 0} (told : T → List E) (by : E → ℕ) (set_of : T → G) (seats : ℕ) where
   -- what the value is that is taken out at the end
-  closes : (id : ℕ) (v : View E G) (ws : List ℕ) (xs : List (Option T)) (r : Option T) → v.spent ≡ false → v.inside ≡ false → HasAllSeats seats v.keeps → Final (Seen (Holds told by set_of seats) id v) ws xs → get_elem? xs 0 ≡ some r
+  closes : (id : ℕ) (v : View E G) (ws : List ℕ) (xs : List (Option T)) (r : Option T) → v.spent ≡ false → v.inside ≡ false → HasAllSeats seats v.keeps → Final (Seen (IsConsistent told by set_of seats) id v) ws xs → get_elem? xs 0 ≡ some r
       → (x : T) × (r ≡ Some x) × (v.setting ≡ Some (set_of x)) × Continues by v.keeps v.seen (told x) × IsOfSeats by seats (told x)
   closes id v ws xs r live out all f at =
       let e = ends told by set_of seats id v f.0 live out all f.1 in
       let there = f.4 0 (Some e.0) (subst (λ hs. get_elem? hs 0 ≡ some (some (Some e.0))) (sym e.1) refl) in
       (e.0, some-injective r (Some e.0) (sym at ∙ there), e.2, e.3, e.4)
 
-  pub closes_full : (id : ℕ) (v : View E G) (ws : List ℕ) (xs : List (Option T)) (r : Option T) → v.spent ≡ false → v.inside ≡ false → HasAllSeats seats v.keeps → Final (Seen (Holds told by set_of seats) id v) ws xs → get_elem? xs 0 ≡ some r → r ≡ None → ⊥
+  pub closes_full : (id : ℕ) (v : View E G) (ws : List ℕ) (xs : List (Option T)) (r : Option T) → v.spent ≡ false → v.inside ≡ false → HasAllSeats seats v.keeps → Final (Seen (IsConsistent told by set_of seats) id v) ws xs → get_elem? xs 0 ≡ some r → r ≡ None → ⊥
   closes_full id v ws xs r live out all f at is = let c = closes id v ws xs r live out all f at in let e : None ≡ Some c.0 = sym is ∙ c.1 in cc
 
-  pub closes_with : (id : ℕ) (v : View E G) (ws : List ℕ) (xs : List (Option T)) (r : Option T) (y : T) → v.spent ≡ false → v.inside ≡ false → HasAllSeats seats v.keeps → Final (Seen (Holds told by set_of seats) id v) ws xs → get_elem? xs 0 ≡ some r → r ≡ Some y
+  pub closes_with : (id : ℕ) (v : View E G) (ws : List ℕ) (xs : List (Option T)) (r : Option T) (y : T) → v.spent ≡ false → v.inside ≡ false → HasAllSeats seats v.keeps → Final (Seen (IsConsistent told by set_of seats) id v) ws xs → get_elem? xs 0 ≡ some r → r ≡ Some y
       → (v.setting ≡ Some (set_of y)) × Continues by v.keeps v.seen (told y) × IsOfSeats by seats (told y)
   closes_with id v ws xs r y live out all f at is = let c = closes id v ws xs r live out all f at in
       subst (λ x. (v.setting ≡ Some (set_of x)) × Continues by v.keeps v.seen (told x) × IsOfSeats by seats (told x)) (value c.0 y (sym c.1 ∙ is)) (c.2, c.3, c.4)
@@ -281,11 +282,11 @@ module _ {T E G : Type 0} (told : T → List E) (by : E → ℕ) (set_of : T →
       value : (a b : T) → Some a ≡ Some b → a ≡ b
       value a b e = ap (option_or a) e
 
-  pub opens_as : (x y : T) (k : ℕ) (slots : List (Option T)) → k ≡ seats → y ≡ x → slots ≡ Some x ∷ [] → told x ≡ [] → 0 < seats → Holds told by set_of k (opening (0 ∷ 0 ∷ []) slots (first_view (set_of y) k))
+  pub opens_as : (x y : T) (k : ℕ) (slots : List (Option T)) → k ≡ seats → y ≡ x → slots ≡ Some x ∷ [] → told x ≡ [] → 0 < seats → IsConsistent told by set_of k (opening (0 ∷ 0 ∷ []) slots (first_view (set_of y) k))
   opens_as x y k slots n same held empty some_seat =
-      subst (λ j. Holds told by set_of j (opening (0 ∷ 0 ∷ []) slots (first_view (set_of y) j))) (sym n)
-      (subst (λ z. Holds told by set_of seats (opening (0 ∷ 0 ∷ []) slots (first_view (set_of z) seats))) (sym same)
-      (subst (λ l. Holds told by set_of seats (opening (0 ∷ 0 ∷ []) l (first_view (set_of x) seats))) (sym held) (opens told by set_of seats x empty some_seat)))
+      subst (λ j. IsConsistent told by set_of j (opening (0 ∷ 0 ∷ []) slots (first_view (set_of y) j))) (sym n)
+      (subst (λ z. IsConsistent told by set_of seats (opening (0 ∷ 0 ∷ []) slots (first_view (set_of z) seats))) (sym same)
+      (subst (λ l. IsConsistent told by set_of seats (opening (0 ∷ 0 ∷ []) l (first_view (set_of x) seats))) (sym held) (opens told by set_of seats x empty some_seat)))
 
 pub first_is_dealer : {E G : Type 0} (here : TableId) (g : G) (k count seats : ℕ) (v : View E G) → v ≡ first_view g k → k ≡ seats → count ≡ k → 0 < seats → seat_seen here v ≡ dealing (cell_of here count) g 2 (seats - 1)
 first_is_dealer here g k count zero v is n all some_seat = absurd (omega arith)

@@ -5,7 +5,7 @@ use lib.ListN.{get_elem?}
 use Rattle.atomic_table.proofs.Lists.{at_set}
 use Rattle.turn_cell.specs.Lists.{Among}
 use Rattle.turn_cell.specs.Rule.{AllApart, count_up}
-use Rattle.turn_cell.proofs.Lists.{among-append}
+use Rattle.turn_cell.specs.ListLaws.{among-append}
 
 module _ {A : Type 0} where
   pub set_there : (l : List A) (i : ℕ) (a b : A) → get_elem? l i ≡ some a → get_elem? (set l i b) i ≡ some b

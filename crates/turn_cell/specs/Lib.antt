@@ -1,4 +1,5 @@
 pub mod Lent
+pub mod ListLaws
 pub mod Lists
 pub mod Rule
 pub mod Seats

@@ -1,6 +1,6 @@
 -- The rule under which threads share a cell, and what each kind of step tells the seat that makes it. No caller's clause names a word of this file.
 -- Word 0 is the turn word: 0, or the number of the seat in the turn. Word 1 is the length of the list. The one slot holds the value.
-use Rattle.std.specs.Prelude.{◌≡◌, ◌≢◌, ℕ, zero, suc, ◌+◌, ◌<◌, ◌≤◌, List, [], ◌∷◌, ◌++◌, length, Option, Some, None, Bool, true, false}
+use Rattle.std.specs.Prelude.{◌≡◌, ◌≢◌, ℕ, zero, suc, ◌+◌, ◌-◌, ◌<◌, ◌≤◌, List, [], ◌∷◌, ◌++◌, length, slice_get, Option, Some, None, Bool, true, false}
 use mathlib.Core.Option.{some, none}
 use lib.ListN.{get_elem?}
 use Rattle.atomic_table.specs.Table.{State, Me, Step, rest}
@@ -82,7 +82,7 @@ pub record Fits {E G : Type 0} (by : E → ℕ) (seats turn at : ℕ) (all : Lis
   pub other : Continues by v.other_keeps v.other_seen v.seen
 
 -- The rule
-pub record Holds {T E G : Type 0} (told : T → List E) (by : E → ℕ) (setting : T → G) (seats : ℕ) (s : State (Option T) (View E G)) : Type 0 where
+pub record IsConsistent {T E G : Type 0} (told : T → List E) (by : E → ℕ) (setting : T → G) (seats : ℕ) (s : State (Option T) (View E G)) : Type 0 where
   pub turn : ℕ
   pub at : ℕ
   pub all : List E
@@ -152,3 +152,15 @@ dealing cell g n m = record { cell = cell; number = 1; setting = Some g; seen = 
 abbrev pub Row : {E G : Type 0} → Cell → G → ℕ → ℕ → ℕ → SeatSeen E G → Type 0
 Row here g n m zero s = s ≡ dealing here g (n + 1) m
 Row here g n m (suc k) s = s ≡ new_seat here (suc (suc k)) g
+
+-- the first seat gives away the number n, while m more have no seat yet
+abbrev pub Deals : {E G : Type 0} → Cell → ℕ → ℕ → SeatSeen E G → SeatSeen E G → SeatSeen E G → Type 0
+Deals {E} {G} here n m old new next = (g : G) → old ≡ dealing here g n (m + 1) → (new ≡ dealing here g (n + 1) m) × (next ≡ new_seat here n g)
+
+-- a row begins with the first seat, while m numbers have no seat yet
+abbrev pub IsFirst : {E G : Type 0} → Cell → G → ℕ → List (SeatSeen E G) → Type 0
+IsFirst here g m row = (s : _) → slice_get row 0 ≡ Some s → Row here g 1 m 0 s
+
+-- from a row that begins with the first seat a row of n seats was made, and no number is left
+abbrev pub DealsAll : {E G : Type 0} → Cell → ℕ → List (SeatSeen E G) → List (SeatSeen E G) → Type 0
+DealsAll {E} {G} here n old new = (g : G) → IsFirst here g (n - 1) old → (k : ℕ) (s : _) → slice_get new k ≡ Some s → Row here g n 0 k s

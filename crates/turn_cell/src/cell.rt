@@ -2,7 +2,7 @@
 ghost use Rattle.std.specs.Prelude.{◌≡◌, ℕ, ◌+◌, ◌-◌, ◌<◌, ◌≤◌, vec_capacity, true, false, MatchOption, IfSome, IfNone, Some, [], ◌∷◌, IfOk, IfErr, vec_len, slice_get, length};
 ghost use Rattle.turn_cell.specs.Lists.{Appends, Continues, HasAllSeats, IsOfSeats};
 ghost use Rattle.turn_cell.specs.Seats.{had, new_seat, tried, in_turn, after_turn, joined_with, turn_of, HoldsTurn};
-ghost use Rattle.turn_cell.specs.Rule.{grown, cell_of, Row, dealing};
+ghost use Rattle.turn_cell.specs.Rule.{grown, cell_of, dealing, Deals, IsFirst, DealsAll};
 
 use crate::rule::{About, Both, ByTurns, Deal, Enter, Leave, Listed, Look, Store};
 use crate::seat::Seat;
@@ -51,8 +51,9 @@ type Words<T> = Shared<
 // A seat of the next number, dealt from the first one.
 fn deal<T: Told>(words: &Words<T>, first: &mut Seat<T>, number: u64, left: u64) -> Seat<T>
     requires words { words.now.table_id.words ≡ 2 }
-    requires first { (g : T.Setting) × (first.old ≡ dealing (cell_of words.now.table_id words.now.key.seats) g number (left + 1)) }
-    ensures first { (g : T.Setting) → first.old ≡ dealing (cell_of words.now.table_id words.now.key.seats) g number (left + 1) → (first.new ≡ dealing (cell_of words.now.table_id words.now.key.seats) g (number + 1) left) × (result ≡ new_seat (cell_of words.now.table_id words.now.key.seats) number g) }
+    requires first { (g : T.Setting)
+        × (first.old ≡ dealing (cell_of words.now.table_id words.now.key.seats) g number (left + 1)) }
+    ensures first { Deals (cell_of words.now.table_id words.now.key.seats) number left first.old first.new result }
 {
     let token = words.split_seat::<Deal>(&mut first.token);
     Seat { number, token }
@@ -63,9 +64,10 @@ fn deal_all<T: Told>(words: &Words<T>, all: &mut Vec<Seat<T>>, seats: u32)
     requires words { words.now.table_id.words ≡ 2 }
     requires some { 0 < seats }
     requires room { (vec_len all.old ≡ 1) × (seats ≤ vec_capacity all.old) }
-    requires first { (g : T.Setting) × ((s : _) → slice_get all.old.items 0 ≡ Some s → Row (cell_of words.now.table_id words.now.key.seats) g 1 (seats - 1) 0 s) }
+    requires first { (g : T.Setting)
+        × IsFirst (cell_of words.now.table_id words.now.key.seats) g (seats - 1) all.old.items }
     ensures count { vec_len all.new ≡ seats }
-    ensures each { (g : T.Setting) → ((s : _) → slice_get all.old.items 0 ≡ Some s → Row (cell_of words.now.table_id words.now.key.seats) g 1 (seats - 1) 0 s) → (k : ℕ) (s : _) → slice_get all.new.items k ≡ Some s → Row (cell_of words.now.table_id words.now.key.seats) g seats 0 k s }
+    ensures each { DealsAll (cell_of words.now.table_id words.now.key.seats) seats all.old.items all.new.items }
 {
     for number in 1..seats {
         let next = deal(
@@ -105,7 +107,8 @@ impl<T: Told> TurnCell<T> {
         requires empty { T.told value ≡ [] }
         ensures cell { IfOk result (λ r. r.0.seats ≡ seats) }
         ensures count { IfOk result (λ r. vec_len r.1 ≡ seats) }
-        ensures each { IfOk result (λ r. (k : ℕ) (s : _) → slice_get r.1.items k ≡ Some s → s ≡ new_seat r.0 (k + 1) (T.setting value)) }
+        ensures each { IfOk result (λ r. (k : ℕ) (s : _) → slice_get r.1.items k ≡ Some s
+            → s ≡ new_seat r.0 (k + 1) (T.setting value)) }
         ensures err { IfErr result (λ e. e.value ≡ value) }
     {
         let Ok(mut all) = Vec::with_capacity(alloc, seats as usize) else {

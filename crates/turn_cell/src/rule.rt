@@ -1,6 +1,6 @@
 //! The rule of the table, and the names of its steps.
 ghost use Rattle.std.specs.Prelude.{List, []};
-ghost use Rattle.turn_cell.specs.Rule.{Stores, Holds, first_view, Enters, Leaves, Looks, dealt_from, dealt, both, spent_view};
+ghost use Rattle.turn_cell.specs.Rule.{Stores, IsConsistent, first_view, Enters, Leaves, Looks, dealt_from, dealt, both, spent_view};
 
 use crate::told::Told;
 use crate::view::View;
@@ -21,7 +21,7 @@ pub struct ByTurns<T> {
 }
 
 impl<T: Told> TableRule<Option<T>, View<T::Entry, T::Setting>, About<T>> for ByTurns<T> {
-    ghost holds = { λ key. Holds T.told T.seat_of T.setting key.seats };
+    ghost holds = { λ key. IsConsistent T.told T.seat_of T.setting key.seats };
 
     ghost first = { λ key. first_view (T.setting key.start.value) key.seats };
 }

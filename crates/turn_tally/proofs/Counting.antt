@@ -6,7 +6,7 @@ use mathlib.Core.Logic.{dite}
 use native.Mathlib.Decide.{ℕ_discrete}
 use Rattle.turn_cell.specs.Lists.{entries_of, IsOfSeats}
 use Rattle.turn_tally.specs.declared.entry.Entry.{Entry}
-use Rattle.turn_tally.specs.Tallies.{entry, seat_of, numbered}
+use Rattle.turn_tally.specs.Tallies.{tally_entry, seat_of, entries_upto}
 
 -- how many entries the seats 1 to n have
 count_to : ℕ → List Entry → ℕ
@@ -42,19 +42,19 @@ count_all n (x ∷ xs) h =
     let here = All-head (λ e. (0 < e.seat) × (e.seat ≤ n)) x xs h in
     ap suc (count_all n xs (All-tail (λ e. (0 < e.seat) × (e.seat ≤ n)) x xs h)) ∙ sym (count_one n x xs here.0 here.1)
 
-length-numbered : (k n : ℕ) → length (numbered k n) ≡ n
-length-numbered k zero = refl
-length-numbered k (suc n) = let e = length-numbered k n in omega (arith, length-append (numbered k n) (entry k (suc n) ∷ []))
+length-entries_upto : (k n : ℕ) → length (entries_upto k n) ≡ n
+length-entries_upto k zero = refl
+length-entries_upto k (suc n) = let e = length-entries_upto k n in omega (arith, length-append (entries_upto k n) (tally_entry k (suc n) ∷ []))
 
-count_numbered : (seats n : ℕ) (xs : List Entry) → ((k : ℕ) → 0 < k → k ≤ seats → entries_of seat_of k xs ≡ numbered k n) → count_to seats xs ≡ seats * n
+count_numbered : (seats n : ℕ) (xs : List Entry) → ((k : ℕ) → 0 < k → k ≤ seats → entries_of seat_of k xs ≡ entries_upto k n) → count_to seats xs ≡ seats * n
 unfolding count_to
 count_numbered zero n xs h = omega arith
 count_numbered (suc m) n xs h =
     let front = count_numbered m n xs (λ k low high. h k low (omega arith)) in
-    let last = ap length (h (suc m) (omega arith) (omega arith)) ∙ length-numbered (suc m) n in
+    let last = ap length (h (suc m) (omega arith) (omega arith)) ∙ length-entries_upto (suc m) n in
     let all = suc-mul m n in
     omega arith
 
 -- where each seat has n entries, and no other number has any
-pub length_whole : (seats n : ℕ) (xs : List Entry) → IsOfSeats seat_of seats xs → ((k : ℕ) → 0 < k → k ≤ seats → entries_of seat_of k xs ≡ numbered k n) → length xs ≡ seats * n
+pub length_whole : (seats n : ℕ) (xs : List Entry) → IsOfSeats seat_of seats xs → ((k : ℕ) → 0 < k → k ≤ seats → entries_of seat_of k xs ≡ entries_upto k n) → length xs ≡ seats * n
 length_whole seats n xs ours h = count_all seats xs ours ∙ count_numbered seats n xs h

@@ -2,12 +2,12 @@
 use Rattle.std.proofs.Common.{◌≡◌, ℕ, Bool, true, ap, ◌∙◌, subst, ⊎_elim}
 use Rattle.turn_cell.specs.Lists.{Continues, Among}
 use Rattle.turn_cell.specs.Seats.{Cell, had, joined_with}
-use Rattle.turn_cell.proofs.Lists.{among-append}
+use Rattle.turn_cell.specs.ListLaws.{among-append}
 use Rattle.turn_tally.specs.Tallies.{seat_of}
 use Rattle.turn_tally.specs.Runs.{TallySeat, HasNumbered, IsDone}
 
-pub numbered-joined : (n : ℕ) (a b c : TallySeat) → c ≡ joined_with a b → Continues seat_of (had a) a.seen c.seen → Continues seat_of (had b) b.seen c.seen → HasNumbered n a → HasNumbered n b → HasNumbered n c
-numbered-joined n a b c is p q ha hb k among = ⊎_elim (λ x. p.1 k x ∙ ha k x) (λ x. q.1 k x ∙ hb k x)
+pub entries_upto-joined : (n : ℕ) (a b c : TallySeat) → c ≡ joined_with a b → Continues seat_of (had a) a.seen c.seen → Continues seat_of (had b) b.seen c.seen → HasNumbered n a → HasNumbered n b → HasNumbered n c
+entries_upto-joined n a b c is p q ha hb k among = ⊎_elim (λ x. p.1 k x ∙ ha k x) (λ x. q.1 k x ∙ hb k x)
     (among-append k (had a) (had b) (subst (Among k) (ap had is) among))
 
 pub done-joined : (cell : Cell) (n : ℕ) (a b c : TallySeat) (x y z : Bool) → c ≡ joined_with a b → Continues seat_of (had a) a.seen c.seen → Continues seat_of (had b) b.seen c.seen
@@ -16,5 +16,5 @@ done-joined cell n a b c x y z is p q whole da db = record {
   here = ap (λ (s : TallySeat). s.cell) is ∙ da.here;
   outside = ap (λ (s : TallySeat). s.inside) is ∙ da.outside;
   limit = ap (λ (s : TallySeat). s.setting) is ∙ da.limit;
-  entries = λ e. numbered-joined n a b c is p q (da.entries (whole e).0) (db.entries (whole e).1);
+  entries = λ e. entries_upto-joined n a b c is p q (da.entries (whole e).0) (db.entries (whole e).1);
 }

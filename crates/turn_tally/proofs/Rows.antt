@@ -4,7 +4,7 @@ use Rattle.std.specs.Prelude.{Some, slice_get}
 use mathlib.Core.Logic.{dite}
 use native.Mathlib.Decide.{ℕ_discrete}
 use Rattle.turn_cell.specs.Lists.{Among, HasAllSeats}
-use Rattle.turn_cell.proofs.Lists.{among_left, among_right}
+use Rattle.turn_cell.specs.ListLaws.{among_left, among_right}
 
 module _ {S : Type 0} where
   get_last : (xs : List S) (a : S) → slice_get (xs ++ a ∷ []) (length xs) ≡ Some a

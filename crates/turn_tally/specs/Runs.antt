@@ -3,7 +3,7 @@ use Rattle.std.specs.Prelude.{◌≡◌, ℕ, Bool, true, false, Some}
 use Rattle.turn_cell.specs.Lists.{Among, BeginsWith, entries_of}
 use Rattle.turn_cell.specs.Seats.{Cell, SeatSeen, had}
 use Rattle.turn_tally.specs.declared.entry.Entry.{Entry}
-use Rattle.turn_tally.specs.Tallies.{seat_of, numbered}
+use Rattle.turn_tally.specs.Tallies.{seat_of, entries_upto}
 
 -- a seat of a cell of tallies
 abbrev pub TallySeat : Type 0
@@ -15,7 +15,7 @@ HasWorked old new = (new ≡ record old { seen = new.seen; found = new.found; tr
 
 -- of each of its numbers the seat has seen the entries 1 to n, in order, and no others
 abbrev pub HasNumbered : ℕ → TallySeat → Type 0
-HasNumbered n s = (k : ℕ) → Among k (had s) → entries_of seat_of k s.seen ≡ numbered k n
+HasNumbered n s = (k : ℕ) → Among k (had s) → entries_of seat_of k s.seen ≡ entries_upto k n
 
 -- A seat of this cell, whose workers have ended. Where none of them lacked memory, each has appended the entries 1 to n
 pub record IsDone (cell : Cell) (n : ℕ) (s : TallySeat) (complete : Bool) : Type 0 where

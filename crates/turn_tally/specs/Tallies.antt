@@ -12,14 +12,14 @@ abbrev pub greatest_of : List Entry → ℕ
 greatest_of [] = 0
 greatest_of (e ∷ es) = max e.number (greatest_of es)
 
-abbrev pub entry : ℕ → ℕ → Entry
-entry seat number = record { seat = seat; number = number }
+abbrev pub tally_entry : ℕ → ℕ → Entry
+tally_entry seat number = record { seat = seat; number = number }
 
 -- the seat of an entry
 abbrev pub seat_of : Entry → ℕ
 seat_of e = e.seat
 
 -- the entries of a seat with the numbers 1 to n, in order
-abbrev pub numbered : ℕ → ℕ → List Entry
-numbered seat zero = []
-numbered seat (suc n) = numbered seat n ++ entry seat (suc n) ∷ []
+abbrev pub entries_upto : ℕ → ℕ → List Entry
+entries_upto seat zero = []
+entries_upto seat (suc n) = entries_upto seat n ++ tally_entry seat (suc n) ∷ []

@@ -1,7 +1,7 @@
 //! A list of pairs of seat and number, which knows its greatest number.
 ghost use Rattle.std.specs.Prelude.{◌≡◌, ◌≤◌, [], ◌∷◌, ◌++◌, OnOk, OnErr};
 ghost use Rattle.turn_cell.specs.Lists.{Appends};
-ghost use Rattle.turn_tally.specs.Tallies.{entry, greatest_of, seat_of};
+ghost use Rattle.turn_tally.specs.Tallies.{tally_entry, greatest_of, seat_of};
 
 use crate::entry::Entry;
 use std::alloc::{AllocError, Global};
@@ -59,7 +59,8 @@ impl Tally {
     /// Appends an entry. Where there is no memory for it the tally is unchanged.
     pub fn append(&mut self, seat: u64, number: u64) -> Result<(), AllocError>
         requires limit { number ≤ self.old.limit }
-        ensures ok { OnOk result (self.new ≡ record self.old { entries = self.old.entries ++ entry seat number ∷ [] }) }
+        ensures ok { OnOk result (self.new
+            ≡ record self.old { entries = self.old.entries ++ tally_entry seat number ∷ [] }) }
         ensures err { OnErr result (self.new ≡ self.old) }
         ensures list { Appends seat_of seat self.old.entries self.new.entries }
     {

@@ -3,7 +3,7 @@ ghost use Rattle.std.specs.Prelude.{◌≡◌, ℕ, ◌+◌, ◌*◌, ◌<◌, �
 ghost use Rattle.std.specs.Thread.{IsSync};
 ghost use Rattle.turn_cell.specs.Lists.{Continues, entries_of, HasAllSeats};
 ghost use Rattle.turn_cell.specs.Seats.{had, in_turn, new_seat, turn_of};
-ghost use Rattle.turn_tally.specs.Tallies.{entry, greatest_of, numbered, seat_of};
+ghost use Rattle.turn_tally.specs.Tallies.{tally_entry, greatest_of, entries_upto, seat_of};
 ghost use Rattle.turn_tally.specs.Runs.{HasWorked, IsDone};
 
 use crate::finished::Finished;
@@ -24,7 +24,8 @@ pub fn append_once<R: Wait>(
     requires outside { seat.old.inside ≡ false }
     requires limit { (l : ℕ) × (seat.old.setting ≡ Some l) × (number ≤ l) }
     ensures seat { HasWorked seat.old seat.new }
-    ensures ok { OnOk result (entries_of seat_of seat.old.number seat.new.seen ≡ entries_of seat_of seat.old.number seat.old.seen ++ entry seat.old.number number ∷ []) }
+    ensures ok { OnOk result (entries_of seat_of seat.old.number seat.new.seen
+        ≡ entries_of seat_of seat.old.number seat.old.seen ++ tally_entry seat.old.number number ∷ []) }
     ensures err { OnErr result (entries_of seat_of seat.old.number seat.new.seen ≡ entries_of seat_of seat.old.number seat.old.seen) }
 {
     let mut turn = cell.enter(rt, seat);
@@ -71,7 +72,8 @@ fn work<R: Wait>(rt: &R, cell: &TurnCell<Tally>, mut seat: Seat<Tally>, turns: u
 fn merge(cell: &TurnCell<Tally>, all: Finished, one: Finished) -> Finished
     requires cell { (all.seat.cell ≡ cell.now) × (one.seat.cell ≡ cell.now) }
     requires outside { (all.seat.inside ≡ false) × (one.seat.inside ≡ false) }
-    ensures done { (n : ℕ) → IsDone cell.now n all.seat all.complete → IsDone cell.now n one.seat one.complete → IsDone cell.now n result.seat result.complete }
+    ensures done { (n : ℕ) → IsDone cell.now n all.seat all.complete → IsDone cell.now n one.seat one.complete
+        → IsDone cell.now n result.seat result.complete }
     ensures numbers { had result.seat ≡ had all.seat ++ had one.seat }
 {
     let Finished { mut seat, complete } = all;
@@ -103,7 +105,8 @@ fn work_all<R: Threads + Wait + Sync>(
     let (all, one) = join(
         rt,
         move || -> Finished
-            requires { IsSync R.row × (0 < vec_len seats) × ((k : ℕ) (s : _) → slice_get seats.items k ≡ Some s → s ≡ new_seat cell.now (k + 1) turns) }
+            requires { IsSync R.row × (0 < vec_len seats)
+                × ((k : ℕ) (s : _) → slice_get seats.items k ≡ Some s → s ≡ new_seat cell.now (k + 1) turns) }
             ensures done { IsDone cell.entry.now turns result.seat result.complete }
             ensures all { HasAllSeats (vec_len seats) (had result.seat) }
         { work_all(rt, cell, seats, turns) },
@@ -125,7 +128,8 @@ pub fn tally_by_turns<R: Threads + Wait + Sync>(
 ) -> Result<Tally, AllocError>
     requires some { 0 < workers }
     ensures limit { IfOk result (λ t. t.limit ≡ turns) }
-    ensures entries { IfOk result (λ t. (k : ℕ) → 0 < k → k ≤ workers → entries_of seat_of k t.entries ≡ numbered k turns) }
+    ensures entries { IfOk result (λ t. (k : ℕ) → 0 < k → k ≤ workers
+        → entries_of seat_of k t.entries ≡ entries_upto k turns) }
     ensures count { IfOk result (λ t. length t.entries ≡ workers * turns) }
 {
     let Ok((cell, seats)) = TurnCell::new(alloc, Tally::new(alloc, u64::from(turns)), workers)

@@ -231,7 +231,8 @@ impl Table {
     pub fn home(&self, clause: u32) -> Option<u32>
         requires some { 1 ≤ clause }
         requires there { clause ≤ steps self.now.setting self.now.past }
-        ensures lists { (m : ℕ) → m < nodes self.now.past → listed self.now.setting self.now.past m clause ≡ at_home (on_path self.now.past m) result }
+        ensures lists { (m : ℕ) → m < nodes self.now.past → listed self.now.setting self.now.past m clause
+            ≡ at_home (on_path self.now.past m) result }
         ensures node { IfSome result (λ home. home < nodes self.now.past) }
     {
         self.homes[clause as usize - 1]
@@ -263,7 +264,8 @@ impl Table {
     /// The first empty clause that was published or assumed at the node itself.
     fn own_empty(&self, node: u32) -> Option<u32>
         requires { node < nodes self.now.past }
-        ensures { result ≡ own_empty node 1 (homes self.now.setting self.now.past) (ledger self.now.setting self.now.past) }
+        ensures { result ≡ own_empty node 1 (homes self.now.setting self.now.past)
+            (ledger self.now.setting self.now.past) }
     {
         self.empties[node as usize]
     }
@@ -271,7 +273,8 @@ impl Table {
     /// The empty clause with the smallest number that is listed at the node; none exactly where the node is live.
     pub fn first_empty(&self, node: u32) -> Option<u32>
         requires { node < nodes self.now.past }
-        ensures { MatchOption result (IsLive self.now.setting self.now.past node) (λ n. IsFirstEmpty self.now.setting self.now.past node n) }
+        ensures { MatchOption result (IsLive self.now.setting self.now.past node)
+            (λ n. IsFirstEmpty self.now.setting self.now.past node n) }
     {
         self.journal_is_legal();
         let mut first = None;
@@ -288,7 +291,8 @@ impl Table {
     /// Whether no empty clause is listed at the node.
     pub fn live(&self, node: u32) -> bool
         requires { node < nodes self.now.past }
-        ensures { MatchBool result (IsLive self.now.setting self.now.past node) (IsDead self.now.setting self.now.past node) }
+        ensures { MatchBool result (IsLive self.now.setting self.now.past node)
+            (IsDead self.now.setting self.now.past node) }
     {
         self.first_empty(node).is_none()
     }
@@ -310,7 +314,8 @@ impl Table {
     pub fn held(&self, worker: u32) -> Option<u32>
         requires some { 1 ≤ worker }
         requires there { worker ≤ self.now.setting.workers }
-        ensures { MatchOption result ((m : ℕ) → ¬ Holds self.now.setting self.now.past worker m) (λ m. Holds self.now.setting self.now.past worker m) }
+        ensures { MatchOption result ((m : ℕ) → ¬ Holds self.now.setting self.now.past worker m)
+            (λ m. Holds self.now.setting self.now.past worker m) }
     {
         self.journal_is_legal();
         match self.claimed(worker) {
@@ -327,7 +332,9 @@ impl Table {
 
     /// Whether the node is that of no worker's last Claim.
     fn unclaimed(&self, node: u32) -> bool
-        ensures { MatchBool result ((w : ℕ) → 1 ≤ w → w ≤ self.now.setting.workers → ¬ (claimed self.now.past w ≡ Some node)) ((w : ℕ) × (claimed self.now.past w ≡ Some node)) }
+        ensures { MatchBool result
+            ((w : ℕ) → 1 ≤ w → w ≤ self.now.setting.workers → ¬ (claimed self.now.past w ≡ Some node))
+            ((w : ℕ) × (claimed self.now.past w ≡ Some node)) }
     {
         for k in 0..self.workers() {
             if self.claimed(k + 1) == Some(node) {
@@ -340,7 +347,8 @@ impl Table {
     /// Whether the node is a live leaf that nobody holds.
     fn claimable(&self, node: u32) -> bool
         requires { node < nodes self.now.past }
-        ensures { MatchBool result (IsClaimable self.now.setting self.now.past node) (¬ IsClaimable self.now.setting self.now.past node) }
+        ensures { MatchBool result (IsClaimable self.now.setting self.now.past node)
+            (¬ IsClaimable self.now.setting self.now.past node) }
     {
         self.journal_is_legal();
         if !self.leaf(node) {
@@ -370,7 +378,8 @@ impl Table {
 
     /// The leftmost live leaf that nobody holds; none exactly where there is none.
     pub fn claim_next(&self) -> Option<u32>
-        ensures { MatchOption result ((m : ℕ) → ¬ IsClaimable self.now.setting self.now.past m) (λ m. IsNextClaim self.now.setting self.now.past m) }
+        ensures { MatchOption result ((m : ℕ) → ¬ IsClaimable self.now.setting self.now.past m)
+            (λ m. IsNextClaim self.now.setting self.now.past m) }
     {
         self.journal_is_legal();
         for place in 0..self.leaf_count() {
@@ -426,7 +435,8 @@ impl Table {
     fn weighed(&self, clause: u32) -> Candidate
         requires some { 1 ≤ clause }
         requires there { clause ≤ steps self.now.setting self.now.past }
-        ensures { (l : Line) → numbered (ledger self.now.setting self.now.past) clause ≡ Some l → result ≡ weighed clause l }
+        ensures { (l : Line) → numbered (ledger self.now.setting self.now.past) clause ≡ Some l
+            → result ≡ weighed clause l }
     {
         Candidate {
             number: clause,

@@ -8,22 +8,9 @@ use Rattle.spl_terms.specs.Clauses.{no_atoms, is_empty, IsEmpty}
 use Rattle.dep_sets.specs.declared.deps.Assumption.{Assumption}
 use Rattle.proof_steps.specs.declared.step.Statement.{Statement}
 use Rattle.proof_steps.specs.Checked.{IsContradiction}
+use Rattle.case_journal.specs.FactLaws.{contradiction_is}
 use Rattle.case_journal.specs.Ending.{no_assumptions, is_contradiction, states_contradiction}
 use Rattle.case_journal.proofs.event.ends_contradictory.Goals as goal
-
-no_atoms_is : (atoms : List Atom) → no_atoms atoms ≡ true → atoms ≡ []
-no_atoms_is [] h = refl
-no_atoms_is (a ∷ atoms) h = absurd (false≢true h)
-
-no_assumptions_is : (deps : List Assumption) → no_assumptions deps ≡ true → deps ≡ []
-no_assumptions_is [] h = refl
-no_assumptions_is (a ∷ deps) h = absurd (false≢true h)
-
-empty_is : (c : Clause) → is_empty c ≡ true → IsEmpty c
-empty_is c h =
-    let last = and_parts (no_atoms c.constraint && no_atoms c.antecedent) (no_atoms c.succedent) h in
-    let first = and_parts (no_atoms c.constraint) (no_atoms c.antecedent) last.0 in
-    (no_atoms_is c.constraint first.0, no_atoms_is c.antecedent first.1, no_atoms_is c.succedent last.1)
 
 is_empty-from : (c : Clause) → IsEmpty c → is_empty c ≡ true
 is_empty-from c h = and_from (no_atoms c.constraint && no_atoms c.antecedent) (no_atoms c.succedent) (and_from (no_atoms c.constraint) (no_atoms c.antecedent) (ap no_atoms h.0) (ap no_atoms h.1)) (ap no_atoms h.2)
@@ -33,9 +20,7 @@ same_test : (b : Bool) (s : Statement) → (IsTrue b → IsContradiction s) → 
 same_test true s there back =
     let h = there refl in
     sym (and_from (is_empty s.clause) (no_assumptions s.deps) (is_empty-from s.clause h.0) (ap no_assumptions h.1))
-same_test false s there back = sym (false_from_ne_true (is_contradiction s) (λ t.
-    let parts = and_parts (is_empty s.clause) (no_assumptions s.deps) t in
-    false≢true (back (empty_is s.clause parts.0, no_assumptions_is s.deps parts.1))))
+same_test false s there back = sym (false_from_ne_true (is_contradiction s) (λ t. false≢true (back (contradiction_is s t))))
 
 pub returns-in-Some : goal.returns-in-Some
 returns-in-Some c =

@@ -3,7 +3,8 @@ use Rattle.case_journal.specs.declared.event.Event.TheVariants.{Split, Full}
 use Rattle.case_journal.specs.Journal.{counted}
 use Rattle.case_journal.specs.Legal.{IsLegal, IsSettled}
 use Rattle.case_journal.specs.ListedLaws.{listed_within}
-use Rattle.clause_splitting.proofs.Legality.{MaySplit, AreSplitLines, splittable, legal_split, legal_full, moved}
+use Rattle.case_journal.specs.FactLaws.{moved}
+use Rattle.clause_splitting.proofs.Legality.{MaySplit, AreSplitLines, splittable, legal_split, legal_full}
 use Rattle.clause_splitting.proofs.Tree.{split_settled}
 use Rattle.clause_splitting.proofs.splitting.split.Goals as goal
 

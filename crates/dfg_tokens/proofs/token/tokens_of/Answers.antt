@@ -1,6 +1,6 @@
 use Rattle.std.proofs.Common.{◌≡◌, ◌<◌, ◌∙◌, length, arith}
 use Rattle.std.proofs.lemmas.Grind.{common_steps}
-use Rattle.dfg_tokens.proofs.OwnBytes.{own_found}
+use Rattle.dfg_tokens.specs.TokenLaws.{own_found}
 use Rattle.dfg_tokens.proofs.Skip.{goes_on, whole}
 use Rattle.dfg_tokens.specs.Tokens.{tokens_from}
 use Rattle.dfg_tokens.proofs.token.tokens_of.Goals as goal

@@ -1,6 +1,7 @@
 use Rattle.std.proofs.Common.{◌≡◌, ◌++◌, drop, map, true}
 use Rattle.std.specs.Prelude.{◌==◌}
-use Rattle.proof_text.specs.Texts.{term_text, separated, name_of}
+use Rattle.spl_symbols.specs.Symbols.{name_of}
+use Rattle.proof_text.specs.Texts.{term_text, separated}
 use Rattle.proof_text.proofs.words.+terms.Given as goal
 
 abbrev pub invariant-push_applied-loop-k : goal.invariant-push_applied-loop-k

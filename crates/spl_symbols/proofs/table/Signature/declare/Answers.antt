@@ -3,7 +3,8 @@ use Rattle.spl_symbols.specs.Symbols.{Declared, declared, found, HasOwnNames}
 use Rattle.spl_symbols.proofs.Found.{length-entries}
 use Rattle.std.specs.List.{list_all}
 use Rattle.dfg_tokens.specs.Names.{is_name}
-use Rattle.spl_symbols.proofs.OwnNames.{one_more_name, one_more_named}
+use Rattle.spl_symbols.specs.NameLaws.{one_more_name}
+use Rattle.spl_symbols.proofs.OwnNames.{one_more_named}
 use Rattle.spl_symbols.proofs.table.Signature.declare.Goals as goal
 use Rattle.spl_symbols.proofs.table.Signature.declare.Goals.{in-Ok, in-Err}
 

@@ -7,9 +7,9 @@ use Rattle.case_journal.specs.Paths.{leaves, leaves_by}
 use Rattle.case_journal.specs.Facts.{chosen}
 use Rattle.case_journal.specs.Legal.{IsLegalJournal}
 use Rattle.split_tree.specs.Fields.{setting_of}
-use Rattle.split_tree.specs.Caches.{past_of, branches_by, homes, homes_by, spots, spots_upto, empties, noted_empties, AreHomes, tally, tally_by, weights, retired, retired_by, pushed, noted, newest_upto}
+use Rattle.split_tree.specs.Caches.{past_of, branches_by, homes, homes_by, spots, spots_upto, empties, noted_empties, AreHomes, tally, tally_by, weights, retired, retired_by, pushed, with_retired, newest_upto}
 use Rattle.split_tree.proofs.Lists.{rest_slice, length-spots_upto, weights-append, length-weights}
-use Rattle.split_tree.proofs.Places.{HasLines-legal, node_there}
+use Rattle.split_tree.proofs.Places.{AddsLines-legal, node_there}
 use Rattle.case_journal.specs.PlaceLaws.{steps_more}
 use Rattle.case_journal.specs.BoundLaws.{rounds_legal, rounds_bound, splits_legal, splits_bound, counted_legal, counted_bound, splits_nodes}
 use Rattle.split_tree.proofs.States.{few_choices, length-states_by}
@@ -51,7 +51,7 @@ note_empties-requires-clause-each c =
     let p = past_of t.journal.items in
     let legal = rw (← c.self.view_is) at c.requires.legal in
     let is = added t.homes.items c.add_homes.new.homes.items c.args.event c.len-steps.result c.len-nodes.result (nodes p) c.deref.result.now (omega (arith, c.len-steps.ensures, t.homes.ok.0)) (omega (arith, c.len-nodes.ensures, branches_len t c.self.invariant)) c.add_homes.ensures.items c.deref.ensures.value in
-    ap length is ∙ (length-homes_by c.args.event (nodes p) (HasLines-legal (setting_of t) p c.args.by c.args.event legal.asked) ∙ sym (ap length c.lines.ensures))
+    ap length is ∙ (length-homes_by c.args.event (nodes p) (AddsLines-legal (setting_of t) p c.args.by c.args.event legal.asked) ∙ sym (ap length c.lines.ensures))
 
 pub note_empties-requires-clause-few : goal.note_empties-requires-clause-few
 note_empties-requires-clause-few c =
@@ -191,9 +191,9 @@ invariant_of-self c =
       retired_are = c.add_retired.ensures.items ∙ (ap (λ xs. pushed xs c.retires-retired.result) i.retired_are ∙ (ap (pushed (reverse (retired p))) retires ∙ (sym (retired-push e p) ∙ ap (λ q. reverse (retired q)) (sym is_past))));
       newest_are =
           c.add_copies-2.ensures.items
-          ∙ (ap (λ xs. xs ++ replicate {A = Option ℕ} (length c.lines-lines.result.now) None) (c.note_newest.ensures.items ∙ (ap (noted c.retires-retired.result c.len-2.result) i.newest_are ∙ ap (λ o. noted o c.len-2.result last) retires))
-          ∙ (ap (λ k. noted (retired_by ev (chosen p) (retired p)) k last ++ replicate {A = Option ℕ} (length c.lines-lines.result.now) None) records
-          ∙ (ap (λ m. noted (retired_by ev (chosen p) (retired p)) (length (retired p)) last ++ replicate {A = Option ℕ} m None) (ap length lines_are)
+          ∙ (ap (λ xs. xs ++ replicate {A = Option ℕ} (length c.lines-lines.result.now) None) (c.note_newest.ensures.items ∙ (ap (with_retired c.retires-retired.result c.len-2.result) i.newest_are ∙ ap (λ o. with_retired o c.len-2.result last) retires))
+          ∙ (ap (λ k. with_retired (retired_by ev (chosen p) (retired p)) k last ++ replicate {A = Option ℕ} (length c.lines-lines.result.now) None) records
+          ∙ (ap (λ m. with_retired (retired_by ev (chosen p) (retired p)) (length (retired p)) last ++ replicate {A = Option ℕ} m None) (ap length lines_are)
           ∙ (newest_after s p i.legal e legal.asked ∙ ap (λ q. newest_upto (steps s q) (retired q)) (sym is_past)))));
       weights_room = omega (arith, c.add_weights.new.list.ok.0, ap length c.add_weights.ensures.items, length-append t.weights.items (weights c.lines-2.result.now), length-weights c.lines-2.result.now, t.weights.ok.0, i.weights_room, c.add_weights.ensures.capacity, ap length lines_are, ap length c.lines-2.ensures);
       newest_room = omega (arith, c.add_copies-2.new.items.ok.0, ap length c.add_copies-2.ensures.items, length-append c.note_newest.new.newest.items (replicate {A = Option ℕ} (length c.lines-lines.result.now) None), length-replicate {A = Option ℕ} (length c.lines-lines.result.now) None, c.note_newest.new.newest.ok.0, c.note_newest.ensures.len, c.note_newest.ensures.capacity, t.newest.ok.0, i.newest_room, c.add_copies-2.ensures.capacity, ap length lines_are);
@@ -222,7 +222,7 @@ invariant_of-self c =
       branches_room = omega (arith, c.add_branches.new.branches.ok.0, ap length c.add_branches.ensures.items, length-append t.branches.items (branches_by ev), length-branches_by ev, nodes_cost p c.args.by ev, cost_is, t.branches.ok.0, i.branches_room, c.add_branches.ensures.capacity);
       states_room = omega (arith, c.note_node.new.states.ok.0, ap length c.note_node.ensures.items, length-states_by ev t.states.items, nodes_cost p c.args.by ev, cost_is, t.states.ok.0, i.states_room, c.note_node.ensures.capacity);
       leaves_room = omega (arith, c.note_leaves.ensures.len, splits_nodes ev, nodes_cost p c.args.by ev, cost_is, i.leaves_room, c.note_leaves.ensures.capacity);
-      homes_room = omega (arith, c.add_homes.new.homes.ok.0, ap length c.add_homes.ensures.items, length-append t.homes.items (homes_by ev c.len-nodes.result), length-homes_by ev c.len-nodes.result (HasLines-legal s p c.args.by ev legal.asked), t.homes.ok.0, i.homes_room, c.add_homes.ensures.capacity, ap length lines_are);
+      homes_room = omega (arith, c.add_homes.new.homes.ok.0, ap length c.add_homes.ensures.items, length-append t.homes.items (homes_by ev c.len-nodes.result), length-homes_by ev c.len-nodes.result (AddsLines-legal s p c.args.by ev legal.asked), t.homes.ok.0, i.homes_room, c.add_homes.ensures.capacity, ap length lines_are);
       spots_room = omega (arith, c.add_spots.new.spots.ok.0, ap length c.add_spots.ensures.items, length-append t.spots.items (spots_upto c.len.result (length c.lines-lines.result.now)), length-spots_upto c.len.result (length c.lines-lines.result.now), t.spots.ok.0, i.spots_room, c.add_spots.ensures.capacity, ap length lines_are);
       empties_room = omega (arith, c.note_empties.ensures.len, c.note_empties.ensures.capacity, c.add_copies.new.items.ok.0, ap length c.add_copies.ensures.items, length-append t.empties.items (replicate {A = Option ℕ} c.nodes_of.result None), length-replicate {A = Option ℕ} c.nodes_of.result None, c.nodes_of.ensures, nodes_cost p c.args.by ev, cost_is, t.empties.ok.0, i.empties_room, c.add_copies.ensures.capacity);
     }

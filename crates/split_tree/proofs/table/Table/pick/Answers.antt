@@ -1,17 +1,13 @@
 use Rattle.std.specs.Prelude.{fold}
 use Rattle.std.proofs.Common.{◌≡◌, ◌+◌, ◌-◌, ◌<◌, ◌∙◌, ℕ, zero, suc, cond, List, [], ◌∷◌, length, take, Some, None, ap, sym, refl, arith}
 use Rattle.std.specs.List.{slice_get}
+use Rattle.spl_terms.specs.ListLaws.{get-there}
 use Rattle.spl_truth.specs.Picking.{better}
 use Rattle.case_journal.specs.Journal.{ledger}
 use Rattle.case_journal.specs.Picking.{passing, is_passive, weighed}
 use Rattle.case_journal.specs.ListLaws.{numbered_get}
 use Rattle.split_tree.proofs.Retired.{fold_passing}
 use Rattle.split_tree.proofs.table.Table.pick.Goals as goal
-
-there_at : {A : Type 0} (xs : List A) (k : ℕ) → k < length xs → (x : A) × (slice_get xs k ≡ Some x)
-there_at [] k h = absurd (omega arith)
-there_at (x ∷ xs) zero h = (x, refl)
-there_at (x ∷ xs) (suc k) h = there_at xs k (omega arith)
 
 pub loop-k-preserved : goal.loop-k-preserved
 loop-k-preserved c =
@@ -21,7 +17,7 @@ loop-k-preserved c =
     let k = c.loop-k.k in
     let f = better c.is_fifth-by_age.result in
     let passes = is_passive s p c.args.node in
-    let r = there_at lines k (omega (arith, c.loop-k-test.true, c.steps-k-end.ensures)) in
+    let r = get-there lines k (omega (arith, c.loop-k-test.true, c.steps-k-end.ensures)) in
     let z : k + 1 - 1 ≡ k = omega arith in
     let found = numbered_get lines (k + 1) (omega arith) ∙ (ap (slice_get lines) z ∙ r.1) in
     let e : suc k ≡ k + 1 = omega arith in

@@ -1,4 +1,4 @@
--- A token stands for its own bytes.
+-- Laws with their proofs, not definitions that a reader must believe: a token stands for its own bytes.
 use Rattle.std.proofs.Common.{◌≡◌, ◌==◌, ℕ, zero, suc, ◌+◌, ◌-◌, Bool, true, false, not, cond, List, [], ◌∷◌, take, drop, Option, Some, None, refl, sym, ap, subst, ◌∙◌, arith}
 use Rattle.std.proofs.lemmas.Bool.{eqb-true}
 use Rattle.std.specs.Bool.{⊤}
@@ -8,7 +8,7 @@ use Rattle.dfg_tokens.specs.declared.piece.Mark.TheVariants as marks
 use Rattle.dfg_tokens.specs.declared.piece.TokenKind.{TokenKind}
 use Rattle.dfg_tokens.specs.declared.piece.Piece.{Piece}
 use Rattle.dfg_tokens.specs.declared.token.Token.{Token}
-use Rattle.dfg_tokens.specs.Tokens.{is_space, is_letter, byte_of, mark_of, closing, closed_text, text_at, name_at, mark_or_stray, piece_at, token_if, tokens_from, tokens, ends_name, AreLetters, IsSpelled, AreTokensOf}
+use Rattle.dfg_tokens.specs.Tokens.{is_space, is_letter, byte_of, mark_of, text_length, closed_text, text_at, name_at, mark_or_stray, piece_at, token_if, tokens_from, tokens, ends_name, AreLetters, IsSpelled, AreTokensOf}
 
 abbrev SpelledIf : Option TokenKind → List ℕ → Type 0
 SpelledIf None text = ⊤
@@ -29,7 +29,7 @@ text_own bytes (Some n) = tt
 at_brace_own : (bytes rest : List ℕ) → OwnBytes bytes (text_at rest)
 unfolding text_at
 at_brace_own bytes [] = tt
-at_brace_own bytes (b ∷ rest) = choose (OwnBytes bytes) (b == 42) (closed_text (closing rest)) _ (text_own bytes (closing rest)) tt
+at_brace_own bytes (b ∷ rest) = choose (OwnBytes bytes) (b == 42) (closed_text (text_length rest)) _ (text_own bytes (text_length rest)) tt
 
 take_one : (b : ℕ) (bs : List ℕ) → take 1 (b ∷ bs) ≡ b ∷ []
 take_one b [] = refl
