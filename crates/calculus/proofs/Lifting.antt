@@ -28,11 +28,11 @@ use Rattle.spl_truth.specs.OccurrenceLaws.{same_arguments, same_symbols}
 use Rattle.spl_truth.specs.EntryLaws.{length-entries_below}
 use Rattle.proof_steps.specs.declared.step.Line.{Line}
 use Rattle.proof_steps.specs.declared.step.Rule.TheVariants.{Resolve}
-use Rattle.proof_steps.specs.Steps.{fits, is_negative, both_same, may_resolve, resolvent, resolved, resolution, states}
+use Rattle.proof_steps.specs.Steps.{has_entries, is_negative, both_same, may_resolve, resolvent, resolved, resolution, states}
 use Rattle.dep_sets.specs.Assumptions.{united}
 use Rattle.spl_terms.specs.InOrder.{IsInOrder, variables}
 use Rattle.calculus.specs.declared.kept.Kept.{Kept}
-use Rattle.calculus.specs.Inferences.{clause_of, raised, variables_of_both, first_part, second_part, by_unifier_of_both, atom_unifier, resolve}
+use Rattle.calculus.specs.Inferences.{clause_of, renamed_apart, variables_of_both, first_part, second_part, by_unifier_of_both, atom_unifier, resolve}
 use Rattle.spl_terms.specs.VariableLaws.{has, itself, renamed_variables_atom}
 use Rattle.spl_terms.specs.InOrderLaws.{in_clause, variables-below}
 
@@ -108,8 +108,8 @@ has-map n (x ∷ vs) v e = elim (or_cases (v == n x) (has v (map n vs)) e) [
 ]
 
 -- a variable of a raised atom of q is below the number of variables of both
-pub raised_below : (p q : Kept) → IsInOrder (clause_of q) → (part : Part) (j : ℕ) (b : Atom) → slice_get (part_of (clause_of q) part) j ≡ Some b → (v : ℕ) → has v (atom_variables (raised p b)) ≡ true → v < variables_of_both p q
-raised_below p q oq part j b h v k =
+pub renamed_apart_below : (p q : Kept) → IsInOrder (clause_of q) → (part : Part) (j : ℕ) (b : Atom) → slice_get (part_of (clause_of q) part) j ≡ Some b → (v : ℕ) → has v (atom_variables (renamed_apart p b)) ≡ true → v < variables_of_both p q
+renamed_apart_below p q oq part j b h v k =
     let n : ℕ = variables (clause_of p) in
     let from = has-map (λ w. n + w) (atom_variables b) v (ap (has v) (sym (renamed_variables_atom (λ w. n + w) b)) ∙ k) in
     let low = atom_below (clause_of q) oq part j b h from.0 from.1 in
@@ -127,16 +127,16 @@ length-unifier vars a b u = by_answer (solution vars Var ((a, b) ∷ []))
 -- ---- both restrictions fit
 
 module _ (p q : Kept) (u : List Term) (long : length u ≡ variables_of_both p q) where
-  pub first_fits : fits (first_part p u).terms (clause_of p) ≡ true
+  pub first_fits : has_entries (first_part p u).terms (clause_of p) ≡ true
   first_fits = eq-eqb _ _ (omega (arith, long, length-take (variables (clause_of p)) u))
 
-  pub second_fits : fits (second_part p u).terms (clause_of q) ≡ true
+  pub second_fits : has_entries (second_part p u).terms (clause_of q) ≡ true
   second_fits = eq-eqb _ _ (omega (arith, long, length-drop (variables (clause_of p)) u))
 
   pub first_agrees : IsInOrder (clause_of p) → (part : Part) (i : ℕ) (a : Atom) → slice_get (part_of (clause_of p) part) i ≡ Some a → replace_in_atom (entry (first_part p u).terms) a ≡ replace_in_atom (entry u) a
   first_agrees o part i a e = agree_atom (entry (first_part p u).terms) (entry u) a (λ v h. entry-take (variables (clause_of p)) u v (atom_below (clause_of p) o part i a e v h))
 
-  pub second_agrees : IsInOrder (clause_of q) → (part : Part) (j : ℕ) (b : Atom) → slice_get (part_of (clause_of q) part) j ≡ Some b → replace_in_atom (entry (second_part p u).terms) b ≡ replace_in_atom (entry u) (raised p b)
+  pub second_agrees : IsInOrder (clause_of q) → (part : Part) (j : ℕ) (b : Atom) → slice_get (part_of (clause_of q) part) j ≡ Some b → replace_in_atom (entry (second_part p u).terms) b ≡ replace_in_atom (entry u) (renamed_apart p b)
   second_agrees o part j b e =
       let n : ℕ = variables (clause_of p) in
       agree_atom (entry (second_part p u).terms) (λ v. replace (entry u) (Var (n + v))) b
@@ -146,7 +146,7 @@ module _ (p q : Kept) (u : List Term) (long : length u ≡ variables_of_both p q
 -- ---- a unifier of two predicate atoms gives a resolvent
 
 -- the two atoms become the same
-made_same : ForTermsBelow IsUnifierOrNone → (p q : Kept) → IsInOrder (clause_of p) → IsInOrder (clause_of q) → (part : Part) (i j : ℕ) (a b : Atom) (u : List Term) → slice_get (clause_of p).succedent i ≡ Some a → slice_get (part_of (clause_of q) part) j ≡ Some b → atom_unifier (variables_of_both p q) a (raised p b) ≡ Some u → (length u ≡ variables_of_both p q) × (is_same (replace_in_atom (entry (first_part p u).terms) a) (replace_in_atom (entry (second_part p u).terms) b) ≡ true)
+made_same : ForTermsBelow IsUnifierOrNone → (p q : Kept) → IsInOrder (clause_of p) → IsInOrder (clause_of q) → (part : Part) (i j : ℕ) (a b : Atom) (u : List Term) → slice_get (clause_of p).succedent i ≡ Some a → slice_get (part_of (clause_of q) part) j ≡ Some b → atom_unifier (variables_of_both p q) a (renamed_apart p b) ≡ Some u → (length u ≡ variables_of_both p q) × (is_same (replace_in_atom (entry (first_part p u).terms) a) (replace_in_atom (entry (second_part p u).terms) b) ≡ true)
 made_same most_general p q op oq part i j (Holds f ss) (Holds g ts) u e h unified =
     let n : ℕ = variables (clause_of p) in
     let vars : ℕ = variables_of_both p q in
@@ -156,7 +156,7 @@ made_same most_general p q op oq part i j (Holds f ss) (Holds g ts) u e h unifie
     let right : HasVariablesBelow vars (App g rs) = All-from_recursion (λ v. v < vars) _ (all_below vars (term_variables (App g rs)) (λ v k. below_right v (ap (has v) (sym (term_variables-App g rs)) ∙ k))) in
     let general : IsMostGeneral (App f ss) (App g rs) (entry u) = subst (λ o. MatchOption o (HasNoUnifier (App f ss) (App g rs)) (λ entries. IsMostGeneral (App f ss) (App g rs) (entry entries))) unified (most_general vars (App f ss) (App g rs) left right) in
     let both : App f (map (replace (entry u)) ss) ≡ App g (map (replace (entry u)) rs) = sym (replace-App (entry u) f ss) ∙ general.unifies ∙ replace-App (entry u) g rs in
-    let atoms : replace_in_atom (entry u) (Holds f ss) ≡ replace_in_atom (entry u) (raised p (Holds g ts)) = (λ k. Holds (same_symbols f g _ _ both k) (same_arguments f g _ _ both k)) in
+    let atoms : replace_in_atom (entry u) (Holds f ss) ≡ replace_in_atom (entry u) (renamed_apart p (Holds g ts)) = (λ k. Holds (same_symbols f g _ _ both k) (same_arguments f g _ _ both k)) in
     let first = first_agrees p q u long op Succedent i (Holds f ss) e in
     let second = second_agrees p q u long oq part j (Holds g ts) h in
     (long, (λ k. is_same (first k) (second k)) ∙ subst (λ x. is_same (replace_in_atom (entry u) (Holds f ss)) x ≡ true) atoms (same_self (replace_in_atom (entry u) (Holds f ss))))
@@ -165,17 +165,17 @@ made_same most_general p q op oq part i j (Holds f ss) (Holds g ts) u e h unifie
     below_left v k = (let low = atom_below (clause_of p) op Succedent i (Holds f ss) e v k in omega (arith, low))
 
     below_right : (v : ℕ) → has v (flat_map term_variables (map (replace (λ w. Var (variables (clause_of p) + w))) ts)) ≡ true → v < variables_of_both p q
-    below_right v k = raised_below p q oq part j (Holds g ts) h v k
+    below_right v k = renamed_apart_below p q oq part j (Holds g ts) h v k
 made_same most_general p q op oq part i j (Holds f ss) (Equal s t) u e h unified = absurd (cc)
 made_same most_general p q op oq part i j (Equal s t) b u e h unified = absurd (cc)
 
 -- the one line that the unifier gives
-pub resolve_there : ForTermsBelow IsUnifierOrNone → (p q : Kept) → IsInOrder (clause_of p) → IsInOrder (clause_of q) → (part : Part) → is_negative part ≡ true → (i j : ℕ) (a b : Atom) (u : List Term) → slice_get (clause_of p).succedent i ≡ Some a → slice_get (part_of (clause_of q) part) j ≡ Some b → atom_unifier (variables_of_both p q) a (raised p b) ≡ Some u → (l : Line) × (resolve part p q (i, a) (j, b) ≡ l ∷ [])
+pub resolve_there : ForTermsBelow IsUnifierOrNone → (p q : Kept) → IsInOrder (clause_of p) → IsInOrder (clause_of q) → (part : Part) → is_negative part ≡ true → (i j : ℕ) (a b : Atom) (u : List Term) → slice_get (clause_of p).succedent i ≡ Some a → slice_get (part_of (clause_of q) part) j ≡ Some b → atom_unifier (variables_of_both p q) a (renamed_apart p b) ≡ Some u → (l : Line) × (resolve part p q (i, a) (j, b) ≡ l ∷ [])
 resolve_there most_general p q op oq part negative i j a b u e h unified =
     let same = made_same most_general p q op oq part i j a b u e h unified in
     let x : Clause = apply (first_part p u).terms (clause_of p) in
     let y : Clause = apply (second_part p u).terms (clause_of q) in
-    let fit : (fits (first_part p u).terms (clause_of p) && fits (second_part p u).terms (clause_of q)) ≡ true = (λ k. first_fits p q u same.0 k && second_fits p q u same.0 k) in
+    let fit : (has_entries (first_part p u).terms (clause_of p) && has_entries (second_part p u).terms (clause_of q)) ≡ true = (λ k. first_fits p q u same.0 k && second_fits p q u same.0 k) in
     let left : slice_get x.succedent i ≡ Some (replace_in_atom (entry (first_part p u).terms) a) = slice_get-map (replace_in_atom (entry (first_part p u).terms)) (clause_of p).succedent i ∙ ap (option_map (replace_in_atom (entry (first_part p u).terms))) e in
     let right : slice_get (part_of y part) j ≡ Some (replace_in_atom (entry (second_part p u).terms) b) = part_replaced part ∙ slice_get-map (replace_in_atom (entry (second_part p u).terms)) (part_of (clause_of q) part) j ∙ ap (option_map (replace_in_atom (entry (second_part p u).terms))) h in
     let may : may_resolve i part j x y ≡ true = (λ k. negative k && both_same (left k) (right k)) ∙ same.1 in

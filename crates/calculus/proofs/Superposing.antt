@@ -25,15 +25,15 @@ use Rattle.spl_terms.specs.TermLaws.{replace-App}
 use Rattle.std.proofs.lemmas.Bool.{or_left, or_right}
 use Rattle.proof_steps.specs.Spots.{arguments_step, arguments_of, subterm, term_under}
 use Rattle.proof_steps.specs.Spots.{atom_at, with_term_at}
-use Rattle.proof_steps.specs.Steps.{when, states, fits, without, joined, sides_of, rewritten, paramodulated, paramodulation}
+use Rattle.proof_steps.specs.Steps.{when, states, has_entries, without, joined, sides_of, rewritten, paramodulated, paramodulation}
 use Rattle.spl_terms.specs.InOrder.{IsInOrder, variables}
 use Rattle.calculus.specs.declared.kept.Kept.{Kept}
-use Rattle.calculus.specs.Inferences.{Reading, clause_of, raised, variables_of_both, first_part, second_part, by_unifier_of_both, rewriting_unifier, superpose}
+use Rattle.calculus.specs.Inferences.{Reading, clause_of, renamed_apart, variables_of_both, first_part, second_part, by_unifier_of_both, rewriting_unifier, superpose}
 use Rattle.dep_sets.specs.Assumptions.{united}
 use Rattle.proof_steps.specs.declared.step.Line.{Line}
 use Rattle.proof_steps.specs.declared.step.Rule.TheVariants.{Paramodulate}
 use Rattle.spl_terms.specs.VariableLaws.{has}
-use Rattle.calculus.proofs.Lifting.{entry-take, agree_term, atom_below, raised_below, all_below, length-unifier, first_fits, second_fits, second_agrees}
+use Rattle.calculus.proofs.Lifting.{entry-take, agree_term, atom_below, renamed_apart_below, all_below, length-unifier, first_fits, second_fits, second_agrees}
 
 -- ---- subterms of instances
 
@@ -123,7 +123,7 @@ sides-inner false (Equal s t) l r e v h = let q : ◌≡◌ {A = Term × Term} (
 sides-inner true (Equal s t) l r e v h = let q : ◌≡◌ {A = Term × Term} (t, s) (l, r) = cc in let f : l ≡ t = sym (ap (λ (x : Term × Term). x.0) q) in list_any-append (λ x. v == x) (term_variables s) (term_variables t ++ []) ∙ or_right _ _ (list_any-append (λ x. v == x) (term_variables t) [] ∙ or_left _ _ (ap (λ x. has v (term_variables x)) (sym f) ∙ h))
 
 module _ (most_general : ForTermsBelow IsUnifierOrNone) (p q : Kept) (op : IsInOrder (clause_of p)) (oq : IsInOrder (clause_of q)) (i : ℕ) (right : Bool) (spot : Spot) (a b : Atom) (l r w : Term) (u : List Term)
-    (first : slice_get (clause_of p).succedent i ≡ Some a) (sides : sides_of right a ≡ Some (l, r)) (second : atom_at spot.part spot.place (clause_of q) ≡ Some b) (under : term_under spot.path (raised p b) ≡ Some w)
+    (first : slice_get (clause_of p).succedent i ≡ Some a) (sides : sides_of right a ≡ Some (l, r)) (second : atom_at spot.part spot.place (clause_of q) ≡ Some b) (under : term_under spot.path (renamed_apart p b) ≡ Some w)
     (unified : unifier (variables_of_both p q) l w ≡ Some u) where
   long : length u ≡ variables_of_both p q
   long = length-unifier (variables_of_both p q) l w u unified
@@ -135,7 +135,7 @@ module _ (most_general : ForTermsBelow IsUnifierOrNone) (p q : Kept) (op : IsInO
   both_low v h = (let low = left_low v h in omega (arith, low))
 
   inner_low : (v : ℕ) → has v (term_variables w) ≡ true → v < variables_of_both p q
-  inner_low v h = raised_below p q oq spot.part spot.place b second v (term_under-inner spot.path (raised p b) w under v h)
+  inner_low v h = renamed_apart_below p q oq spot.part spot.place b second v (term_under-inner spot.path (renamed_apart p b) w under v h)
 
   -- the side and the subterm become one
   pub made_one : replace (entry (first_part p u).terms) l ≡ replace (entry u) w
@@ -153,16 +153,16 @@ module _ (most_general : ForTermsBelow IsUnifierOrNone) (p q : Kept) (op : IsInO
       let t : List Term = (second_part p u).terms in
       let x : Clause = apply s (clause_of p) in
       let y : Clause = apply t (clause_of q) in
-      let fit : (fits s (clause_of p) && fits t (clause_of q)) ≡ true = (λ k. first_fits p q u long k && second_fits p q u long k) in
+      let fit : (has_entries s (clause_of p) && has_entries t (clause_of q)) ≡ true = (λ k. first_fits p q u long k && second_fits p q u long k) in
       let left : slice_get x.succedent i ≡ Some (replace_in_atom (entry s) a) = slice_get-map (replace_in_atom (entry s)) (clause_of p).succedent i ∙ ap (option_map (replace_in_atom (entry s))) first in
-      let there : atom_at spot.part spot.place y ≡ Some (replace_in_atom (entry u) (raised p b)) = part_replaced spot.part t ∙ slice_get-map (replace_in_atom (entry t)) (part_of (clause_of q) spot.part) spot.place ∙ ap (option_map (replace_in_atom (entry t))) second ∙ ap Some (second_agrees p q u long oq spot.part spot.place b second) in
+      let there : atom_at spot.part spot.place y ≡ Some (replace_in_atom (entry u) (renamed_apart p b)) = part_replaced spot.part t ∙ slice_get-map (replace_in_atom (entry t)) (part_of (clause_of q) spot.part) spot.place ∙ ap (option_map (replace_in_atom (entry t))) second ∙ ap Some (second_agrees p q u long oq spot.part spot.place b second) in
       let same : term_eq (replace (entry u) w) (replace (entry s) l) ≡ true = ap (λ z. term_eq z (replace (entry s) l)) (sym made_one) ∙ term_eq-refl (replace (entry s) l) in (
         _,
         (λ k. if fit k then paramodulated i right spot x y else None)
             ∙ (λ k. option_and_then (rewritten i spot x y) (option_and_then (sides_of right) (left k)))
             ∙ ap (option_and_then (rewritten i spot x y)) (sides-replace (entry s) right a l r sides)
             ∙ (λ k. option_and_then (λ z. when (term_eq z (replace (entry s) l)) (in_order (joined (without Succedent i x) (with_term_at spot (replace (entry s) r) y)))) (option_and_then (term_under spot.path) (there k)))
-            ∙ ap (option_and_then (λ z. when (term_eq z (replace (entry s) l)) (in_order (joined (without Succedent i x) (with_term_at spot (replace (entry s) r) y))))) (term_under-replace (entry u) spot.path (raised p b) w under)
+            ∙ ap (option_and_then (λ z. when (term_eq z (replace (entry s) l)) (in_order (joined (without Succedent i x) (with_term_at spot (replace (entry s) r) y))))) (term_under-replace (entry u) spot.path (renamed_apart p b) w under)
             ∙ ap (λ z. when z (in_order (joined (without Succedent i x) (with_term_at spot (replace (entry s) r) y)))) same,
       )
     where
@@ -172,11 +172,11 @@ module _ (most_general : ForTermsBelow IsUnifierOrNone) (p q : Kept) (op : IsInO
       part_replaced Succedent t = refl
 
 -- the one line that the unifier gives
-pub superpose_there : ForTermsBelow IsUnifierOrNone → (p q : Kept) → IsInOrder (clause_of p) → IsInOrder (clause_of q) → (e : Reading) (spot : Spot) (a b : Atom) (w : Term) (u : List Term) → slice_get (clause_of p).succedent e.place ≡ Some a → sides_of e.right a ≡ Some (e.left_side, e.right_side) → atom_at spot.part spot.place (clause_of q) ≡ Some b → term_under spot.path (raised p b) ≡ Some w → unifier (variables_of_both p q) e.left_side w ≡ Some u → rewriting_unifier (variables_of_both p q) e (raised p b) spot.path ≡ Some u → (l : Line) × (superpose p q e spot ≡ l ∷ [])
+pub superpose_there : ForTermsBelow IsUnifierOrNone → (p q : Kept) → IsInOrder (clause_of p) → IsInOrder (clause_of q) → (e : Reading) (spot : Spot) (a b : Atom) (w : Term) (u : List Term) → slice_get (clause_of p).succedent e.place ≡ Some a → sides_of e.right a ≡ Some (e.left_side, e.right_side) → atom_at spot.part spot.place (clause_of q) ≡ Some b → term_under spot.path (renamed_apart p b) ≡ Some w → unifier (variables_of_both p q) e.left_side w ≡ Some u → rewriting_unifier (variables_of_both p q) e (renamed_apart p b) spot.path ≡ Some u → (l : Line) × (superpose p q e spot ≡ l ∷ [])
 superpose_there most_general p q op oq e spot a b w u first sides second under unified high =
     let made = superposed most_general p q op oq e.place e.right spot a b e.left_side e.right_side w u first sides second under unified in (
       _,
-      (λ k. by_unifier_of_both p q (λ s t. Paramodulate e.place e.right spot s t) (option_and_then (λ b. rewriting_unifier (variables_of_both p q) e (raised p b) spot.path) (second k)))
+      (λ k. by_unifier_of_both p q (λ s t. Paramodulate e.place e.right spot s t) (option_and_then (λ b. rewriting_unifier (variables_of_both p q) e (renamed_apart p b) spot.path) (second k)))
           ∙ ap (by_unifier_of_both p q (λ s t. Paramodulate e.place e.right spot s t)) high
           ∙ ap (λ o. option_to_list (option_map (λ c. record { step = record { rule = Paramodulate e.place e.right spot (first_part p u) (second_part p u); parents = p.number ∷ q.number ∷ [] }; stated = c }) (option_map (λ c. states c (united p.statement.deps q.statement.deps)) o))) made.1,
     )

@@ -14,21 +14,21 @@ use Rattle.proof_steps.specs.declared.step.Line.{Line}
 use Rattle.proof_steps.specs.Spots.{atom_at, term_under}
 use Rattle.proof_steps.specs.Steps.{is_negative, sides_of}
 use Rattle.calculus.specs.declared.kept.Kept.{Kept}
-use Rattle.calculus.specs.Inferences.{Reading, clause_of, raised, variables_of_both, atom_unifier, resolve, rewriting_unifier, superpose, by_unifier, factoring_unifier, factor_equation}
+use Rattle.calculus.specs.Inferences.{Reading, clause_of, renamed_apart, variables_of_both, atom_unifier, resolve, rewriting_unifier, superpose, by_unifier, factoring_unifier, factor_equation}
 
 -- a unifier of a succedent atom of p and a negative atom of q gives a resolvent
 abbrev pub ResolventsAreFound : Type 0
 ResolventsAreFound =
     (p q : Kept) → IsInOrder (clause_of p) → IsInOrder (clause_of q) → (part : Part) → is_negative part ≡ true → (i j : ℕ) (a b : Atom) (u : List Term)
-    → slice_get (clause_of p).succedent i ≡ Some a → slice_get (part_of (clause_of q) part) j ≡ Some b → atom_unifier (variables_of_both p q) a (raised p b) ≡ Some u
+    → slice_get (clause_of p).succedent i ≡ Some a → slice_get (part_of (clause_of q) part) j ≡ Some b → atom_unifier (variables_of_both p q) a (renamed_apart p b) ≡ Some u
     → (l : Line) × (resolve part p q (i, a) (j, b) ≡ l ∷ [])
 
 -- a unifier of the left side of an equation of p, so read, and a subterm of q that keeps the order gives a paramodulant
 abbrev pub ParamodulantsAreFound : Type 0
 ParamodulantsAreFound =
     (p q : Kept) → IsInOrder (clause_of p) → IsInOrder (clause_of q) → (e : Reading) (spot : Spot) (a b : Atom) (w : Term) (u : List Term)
-    → slice_get (clause_of p).succedent e.place ≡ Some a → sides_of e.right a ≡ Some (e.left_side, e.right_side) → atom_at spot.part spot.place (clause_of q) ≡ Some b → term_under spot.path (raised p b) ≡ Some w
-    → unifier (variables_of_both p q) e.left_side w ≡ Some u → rewriting_unifier (variables_of_both p q) e (raised p b) spot.path ≡ Some u
+    → slice_get (clause_of p).succedent e.place ≡ Some a → sides_of e.right a ≡ Some (e.left_side, e.right_side) → atom_at spot.part spot.place (clause_of q) ≡ Some b → term_under spot.path (renamed_apart p b) ≡ Some w
+    → unifier (variables_of_both p q) e.left_side w ≡ Some u → rewriting_unifier (variables_of_both p q) e (renamed_apart p b) spot.path ≡ Some u
     → (l : Line) × (superpose p q e spot ≡ l ∷ [])
 
 -- a unifier of the sides of an antecedent equation gives a line

@@ -17,7 +17,7 @@ use Rattle.proof_steps.specs.declared.step.Rule.TheVariants.{Resolve, Factor, Pa
 use Rattle.proof_steps.specs.declared.step.Line.{Line}
 use Rattle.proof_steps.specs.Steps.{of_one, of_two, from_one, from_two, numbered, resolution, factored, paramodulation, reflection, equality_factoring, conclude}
 use Rattle.calculus.specs.declared.kept.Kept.{Kept}
-use Rattle.calculus.specs.Inferences.{clause_of, eligible_in, raised, variables_of_both, substitution, first_part, second_part, by_unifier, by_unifier_of_both, atom_unifier, resolve, resolutions, readings, equations_of, spots_of, superpose, superpositions, from_to, pair_inferences, sort_steps, others, factorings, reflections, factor_equation, equality_factorings, own_inferences, inferences, IsInference}
+use Rattle.calculus.specs.Inferences.{clause_of, eligible_in, renamed_apart, variables_of_both, by_entries, first_part, second_part, by_unifier, by_unifier_of_both, atom_unifier, resolve, resolutions, readings, equations_of, spots_of, superpose, superpositions, from_to, pair_inferences, sort_steps, other_atoms, factorings, reflections, factor_equation, equality_factorings, own_inferences, inferences, IsInference}
 
 -- ---- each inference is what its step concludes
 
@@ -53,7 +53,7 @@ module _ (input : List Clause) (earlier : List Statement) where
     superpose_stated i right spot (Some u) = stated_if (Paramodulate i right spot (first_part p u) (second_part p u)) (p.number ∷ q.number ∷ []) _ (λ k. of_two (from_two (paramodulation i right spot (first_part p u).terms (second_part p u).terms)) (has_p k) (has_q k))
 
     resolutions_stated : (part : Part) → AreStated (resolutions part p q)
-    resolutions_stated part = all_flat_map (IsStated input earlier) _ (λ a. all_flat_map (IsStated input earlier) (resolve part p q a) (λ b. resolve_stated a.0 part b.0 (atom_unifier (variables_of_both p q) a.1 (raised p b.1))) (eligible_in q part)) (eligible_in p Succedent)
+    resolutions_stated part = all_flat_map (IsStated input earlier) _ (λ a. all_flat_map (IsStated input earlier) (resolve part p q a) (λ b. resolve_stated a.0 part b.0 (atom_unifier (variables_of_both p q) a.1 (renamed_apart p b.1))) (eligible_in q part)) (eligible_in p Succedent)
 
     superpositions_stated : AreStated (superpositions p q)
     superpositions_stated = all_flat_map (IsStated input earlier) _ (λ e. all_flat_map (IsStated input earlier) (superpose p q e) (λ spot. superpose_stated e.place e.right spot _) (spots_of q)) (equations_of p)
@@ -65,22 +65,22 @@ module _ (input : List Clause) (earlier : List Statement) where
   module _ (p : Kept) (has_p : numbered earlier p.number ≡ Some p.statement) where
     factor_stated : (u : Option (List Term)) → AreStated (by_unifier p Factor u)
     factor_stated None = tt
-    factor_stated (Some u) = stated_if (Factor (substitution u)) (p.number ∷ []) _ (λ k. of_one (from_one (factored u)) (has_p k))
+    factor_stated (Some u) = stated_if (Factor (by_entries u)) (p.number ∷ []) _ (λ k. of_one (from_one (factored u)) (has_p k))
 
     reflex_stated : (j : ℕ) (u : Option (List Term)) → AreStated (by_unifier p (Reflex j) u)
     reflex_stated j None = tt
-    reflex_stated j (Some u) = stated_if (Reflex j (substitution u)) (p.number ∷ []) _ (λ k. of_one (from_one (reflection j u)) (has_p k))
+    reflex_stated j (Some u) = stated_if (Reflex j (by_entries u)) (p.number ∷ []) _ (λ k. of_one (from_one (reflection j u)) (has_p k))
 
     equality_factor_stated : (i : ℕ) (i_right : Bool) (j : ℕ) (j_right : Bool) (u : Option (List Term)) → AreStated (by_unifier p (EqFactor i i_right j j_right) u)
     equality_factor_stated i i_right j j_right None = tt
-    equality_factor_stated i i_right j j_right (Some u) = stated_if (EqFactor i i_right j j_right (substitution u)) (p.number ∷ []) _ (λ k. of_one (from_one (equality_factoring i i_right j j_right u)) (has_p k))
+    equality_factor_stated i i_right j j_right (Some u) = stated_if (EqFactor i i_right j j_right (by_entries u)) (p.number ∷ []) _ (λ k. of_one (from_one (equality_factoring i i_right j j_right u)) (has_p k))
 
     own_stated : AreStated (own_inferences p)
     own_stated =
         let P = IsStated input earlier in
-        let fac : AreStated (factorings p) = all_flat_map P _ (λ a. all_flat_map P _ (λ b. factor_stated _) (others a.0 p)) (eligible_in p Succedent) in
+        let fac : AreStated (factorings p) = all_flat_map P _ (λ a. all_flat_map P _ (λ b. factor_stated _) (other_atoms a.0 p)) (eligible_in p Succedent) in
         let ref : AreStated (reflections p) = all_flat_map P _ (λ a. reflex_stated a.0 _) (eligible_in p Antecedent) in
-        let eqf : AreStated (equality_factorings p) = all_flat_map P _ (λ e. all_flat_map P (factor_equation p e) (λ d. equality_factor_stated e.place e.right d.place d.right _) (flat_map readings (others e.place p))) (equations_of p) in
+        let eqf : AreStated (equality_factorings p) = all_flat_map P _ (λ e. all_flat_map P (factor_equation p e) (λ d. equality_factor_stated e.place e.right d.place d.right _) (flat_map readings (other_atoms e.place p))) (equations_of p) in
         all_append P (from_to p p ++ factorings p ++ reflections p) (equality_factorings p) (all_append P (from_to p p ++ factorings p) (reflections p) (all_append P (from_to p p) (factorings p) (from_to_stated p p has_p has_p) fac) ref) eqf
 
   -- each inference states what its step concludes, wherever the premises have their numbers

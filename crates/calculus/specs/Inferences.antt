@@ -37,24 +37,24 @@ eligible_in p part = filter (λ x. is_eligible (clause_of p) p.selected part x.0
 
 -- ---- variables of two premises apart
 
--- an atom of q, where the variables of q are raised by the number of variables of p
-abbrev pub raised : Kept → Atom → Atom
-raised p = replace_in_atom (λ v. Var (variables (clause_of p) + v))
+-- an atom of q, where the variables of q are raised by the number of variables of p, so that the two have none in common
+abbrev pub renamed_apart : Kept → Atom → Atom
+renamed_apart p = replace_in_atom (λ v. Var (variables (clause_of p) + v))
 
 -- the number of variables of both
 abbrev pub variables_of_both : Kept → Kept → ℕ
 variables_of_both p q = variables (clause_of p) + variables (clause_of q)
 
 -- a substitution by its entries
-abbrev pub substitution : List Term → Subst
-substitution entries = record { terms = entries }
+abbrev pub by_entries : List Term → Subst
+by_entries entries = record { terms = entries }
 
 -- the restrictions of a unifier: the entries of the variables of p, and those of the variables of q
 abbrev pub first_part : Kept → List Term → Subst
-first_part p u = substitution (take (variables (clause_of p)) u)
+first_part p u = by_entries (take (variables (clause_of p)) u)
 
 abbrev pub second_part : Kept → List Term → Subst
-second_part p u = substitution (drop (variables (clause_of p)) u)
+second_part p u = by_entries (drop (variables (clause_of p)) u)
 
 -- ---- conclusions, of any size
 
@@ -68,7 +68,7 @@ line_from_both p q rule = option_map (λ s. record { step = record { rule = rule
 
 -- the line of a rule by this unifier; none where there is no unifier
 abbrev pub by_unifier : Kept → (Subst → Rule) → Option (List Term) → List Line
-by_unifier p rule u = option_to_list (option_and_then (λ u. line_from p (rule (substitution u))) u)
+by_unifier p rule u = option_to_list (option_and_then (λ u. line_from p (rule (by_entries u))) u)
 
 -- the same from two premises, by the restrictions to each
 abbrev pub by_unifier_of_both : Kept → Kept → (Subst → Subst → Rule) → Option (List Term) → List Line
@@ -87,7 +87,7 @@ atom_unifier vars a b = of_two (unifier vars) (predicate_term a) (predicate_term
 
 -- the succedent atom of p at place i with the atom of that part of q at place j
 abbrev pub resolve : Part → Kept → Kept → ℕ × Atom → ℕ × Atom → List Line
-resolve part p q (i, a) (j, b) = by_unifier_of_both p q (λ s t. Resolve i part j s t) (atom_unifier (variables_of_both p q) a (raised p b))
+resolve part p q (i, a) (j, b) = by_unifier_of_both p q (λ s t. Resolve i part j s t) (atom_unifier (variables_of_both p q) a (renamed_apart p b))
 
 -- each eligible succedent predicate atom of p with each eligible predicate atom of this part of q
 abbrev pub resolutions : Part → Kept → Kept → List Line
@@ -153,7 +153,7 @@ rewriting_unifier vars e b path =
 -- one equation of p, read in one direction, at one spot of q
 abbrev pub superpose : Kept → Kept → Reading → Spot → List Line
 superpose p q e spot =
-    by_unifier_of_both p q (λ s t. Paramodulate e.place e.right spot s t) (option_and_then (λ b. rewriting_unifier (variables_of_both p q) e (raised p b) spot.path) (atom_at spot.part spot.place (clause_of q)))
+    by_unifier_of_both p q (λ s t. Paramodulate e.place e.right spot s t) (option_and_then (λ b. rewriting_unifier (variables_of_both p q) e (renamed_apart p b) spot.path) (atom_at spot.part spot.place (clause_of q)))
 
 -- each eligible succedent equation of p, in both directions, at each spot of q
 abbrev pub superpositions : Kept → Kept → List Line
@@ -176,12 +176,12 @@ sort_steps given other = resolutions Constraint given other ++ resolutions Const
 -- ---- inferences of one clause
 
 -- the atoms of the succedent but the one at this place, each with its place
-abbrev pub others : ℕ → Kept → List (ℕ × Atom)
-others i p = filter (λ x. not (x.0 == i)) (enumerate_from 0 (clause_of p).succedent)
+abbrev pub other_atoms : ℕ → Kept → List (ℕ × Atom)
+other_atoms i p = filter (λ x. not (x.0 == i)) (enumerate_from 0 (clause_of p).succedent)
 
 -- each eligible succedent predicate atom with each other one
 abbrev pub factorings : Kept → List Line
-factorings p = flat_map (λ x. flat_map (λ y. by_unifier p Factor (atom_unifier (variables (clause_of p)) x.1 y.1)) (others x.0 p)) (eligible_in p Succedent)
+factorings p = flat_map (λ x. flat_map (λ y. by_unifier p Factor (atom_unifier (variables (clause_of p)) x.1 y.1)) (other_atoms x.0 p)) (eligible_in p Succedent)
 
 -- U of the sides of an equation
 abbrev pub sides_unifier : ℕ → Atom → Option (List Term)
@@ -202,7 +202,7 @@ factor_equation p e d = by_unifier p (EqFactor e.place e.right d.place d.right) 
 
 -- each eligible succedent equation with each other one, both in both directions
 abbrev pub equality_factorings : Kept → List Line
-equality_factorings p = flat_map (λ e. flat_map (factor_equation p e) (flat_map readings (others e.place p))) (equations_of p)
+equality_factorings p = flat_map (λ e. flat_map (factor_equation p e) (flat_map readings (other_atoms e.place p))) (equations_of p)
 
 -- the clause with a copy of itself, and then alone
 abbrev pub own_inferences : Kept → List Line

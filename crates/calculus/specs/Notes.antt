@@ -13,7 +13,7 @@ use Rattle.spl_truth.specs.Truth.{entry, apply}
 use Rattle.spl_truth.specs.Redundancy.{is_tautology}
 use Rattle.proof_steps.specs.declared.step.Statement.{Statement}
 use Rattle.proof_steps.specs.Spots.{atom_at, term_under, with_term_under, changed_at, with_part}
-use Rattle.proof_steps.specs.Steps.{when, numbered, fits, sides_of}
+use Rattle.proof_steps.specs.Steps.{when, numbered, has_entries, sides_of}
 use Rattle.spl_truth.specs.Redundancy.{Maps, MapsApart, EachPart}
 use Rattle.calculus.specs.declared.note.Edit.{Edit}
 use Rattle.calculus.specs.declared.note.Why.{Why}
@@ -47,7 +47,7 @@ unit_atom c = if no_atoms c.constraint && no_atoms c.antecedent then only_atom c
 
 -- the sides of the instance of the equation, in the direction of the edit
 abbrev pub edit_sides : Edit → Clause → Option (Term × Term)
-edit_sides e d = if fits e.subst.terms d then option_and_then (sides_of e.right_to_left) (unit_atom (apply e.subst.terms d)) else None
+edit_sides e d = if has_entries e.subst.terms d then option_and_then (sides_of e.right_to_left) (unit_atom (apply e.subst.terms d)) else None
 
 -- the atom with the second side in the place of the first, where that stands at the path
 abbrev pub edited_atom : List ℕ → Atom → Term × Term → Option Atom
@@ -80,7 +80,7 @@ IsFirstEquation n (e ∷ edits) = n ≡ e.equation
 pub record IsSubsumedNote (earlier : List Statement) (hidden by : ℕ) (s : Subst) (c : Clause) : Type 0 where
   pub reason : Statement
   pub found : numbered earlier by ≡ Some reason
-  pub entries : fits s.terms reason.clause ≡ true
+  pub entries : has_entries s.terms reason.clause ≡ true
   pub maps : EachPart (MapsApart (entry s.terms)) reason.clause c
   pub older : IsVariant reason.clause c → by < hidden
 
@@ -88,7 +88,7 @@ pub record IsSubsumedNote (earlier : List Statement) (hidden by : ℕ) (s : Subs
 pub record IsMapped (earlier : List Statement) (reduct : ℕ) (s : Subst) (c : Clause) : Type 0 where
   pub reason : Statement
   pub found : numbered earlier reduct ≡ Some reason
-  pub entries : fits s.terms reason.clause ≡ true
+  pub entries : has_entries s.terms reason.clause ≡ true
   pub maps : EachPart (Maps (entry s.terms)) reason.clause c
 
 -- the edits apply, and the reduct maps into all that has stood there; where that is a tautology, the first equation

@@ -9,8 +9,7 @@ use Rattle.spl_terms.specs.declared.clause.Clause.{Clause}
 use Rattle.spl_terms.specs.Terms.{replace}
 use Rattle.spl_terms.specs.Clauses.{atoms_of, in_order}
 use Rattle.spl_truth.specs.declared.replace.Subst.{Subst}
-use Rattle.spl_truth.specs.Truth.{entry, apply}
-use Rattle.spl_truth.specs.Truth.{states as unit_clause}
+use Rattle.spl_truth.specs.Truth.{entry, apply, unit_clause}
 use Rattle.spl_truth.specs.Orders.{is_greater}
 use Rattle.spl_truth.specs.Unifiers.{occurs, entries_below}
 use Rattle.proof_steps.specs.declared.step.Rule.TheVariants.{Resolve, Factor, Paramodulate, Reflex}

@@ -12,7 +12,7 @@ use Rattle.spl_truth.specs.Truth.{entry, apply}
 use Rattle.dep_sets.specs.Assumptions.{united}
 use Rattle.proof_steps.specs.declared.step.Statement.{Statement}
 use Rattle.proof_steps.specs.declared.step.Line.{Line}
-use Rattle.proof_steps.specs.Steps.{numbered, of_two, from_two, resolution, resolved, resolvent, when, fits, both_same, is_negative, states}
+use Rattle.proof_steps.specs.Steps.{numbered, of_two, from_two, resolution, resolved, resolvent, when, has_entries, both_same, is_negative, states}
 use Rattle.proof_steps.specs.Checked.{resolution_of_lines, stated}
 
 both_none : (x : Option Atom) → both_same x None ≡ false
@@ -39,7 +39,7 @@ stated_at lines (suc k) l h = slice_get-map (λ x. x.stated) lines k ∙ ap (opt
 -- nothing is concluded by resolution into a clause without negated atoms
 no_conclusion : (i : ℕ) (part : Part) (j : ℕ) (p : Option Statement) (q : Statement) → q.clause.constraint ≡ [] → q.clause.antecedent ≡ [] → of_two (from_two (resolution i part j [] [])) p (Some q) ≡ None
 no_conclusion i part j None q a e = refl
-no_conclusion i part j (Some p) q a e = ap (option_map (λ c. states c (united p.deps q.deps))) (no_inference (fits [] p.clause && fits [] q.clause) i part j p.clause q.clause a e)
+no_conclusion i part j (Some p) q a e = ap (option_map (λ c. states c (united p.deps q.deps))) (no_inference (has_entries [] p.clause && has_entries [] q.clause) i part j p.clause q.clause a e)
 
 pub positive_alone : (lines : List Line) (i : ℕ) (part : Part) (j m n : ℕ) (l : Line) (st : Statement) → numbered lines n ≡ Some l → l.stated.clause.constraint ≡ [] → l.stated.clause.antecedent ≡ [] → resolution_of_lines i part j m n lines ≡ Some st → ⊥
 positive_alone lines i part j m n l st found a e h =

@@ -22,7 +22,7 @@ use Rattle.dep_sets.specs.Assumptions.{united}
 use Rattle.clause_parts.specs.Parts.{Parted, marked, part_by, constraint_marks, antecedent_marks, succedent_marks, left_marks, parted_by, parts_of, as_true, as_false, negated_atom}
 use Rattle.proof_steps.specs.declared.step.Statement.{Statement}
 use Rattle.proof_steps.specs.declared.step.Line.{Line}
-use Rattle.proof_steps.specs.Steps.{numbered, when, fits, without, joined, resolvent, may_resolve, resolved, resolution, of_one, of_two, of_three, from_two, states, side_of, assumption_of, both_closed, conclude}
+use Rattle.proof_steps.specs.Steps.{numbered, when, has_entries, without, joined, resolvent, may_resolve, resolved, resolution, of_one, of_two, of_three, from_two, states, side_of, assumption_of, both_closed, conclude}
 use Rattle.proof_steps.specs.SplitLaws.{assumed_of_two, assumption_of-two}
 use Rattle.proof_steps.specs.Checked.{stated}
 use Rattle.case_journal.specs.declared.event.Entry.{Entry}
@@ -200,7 +200,7 @@ resolution_passes : (test : SymbolTest) (i : ℕ) (part : Part) (j : ℕ) (p q c
 resolution_passes test i part j p q c a b h =
     let x = apply [] p in
     let y = apply [] q in
-    let got = if_some (fits [] p && fits [] q) (resolved i part j x y) c h in
+    let got = if_some (has_entries [] p && has_entries [] q) (resolved i part j x y) c h in
     let same = when_some (may_resolve i part j x y) (in_order (resolvent i part j x y)) c got in
     let well : ReplacesWell test (entry []) = λ v. passes-Var test v in
     ap (clause_passes test) (sym same)

@@ -12,7 +12,7 @@ use Rattle.clause_parts.specs.Parts.{Parted, marked, part_by, left_marks, parted
 use Rattle.clause_parts.specs.Sides.{split_parts, negations, ground_negations, side_clauses, place_of, assumed}
 use Rattle.clause_parts.specs.SideLaws.{two_parts, split_parts-two, negations-get}
 use Rattle.proof_steps.specs.declared.step.Statement.{Statement}
-use Rattle.proof_steps.specs.Steps.{when, numbered, states, side_of, closes, assumption_of, ascend_within, are_closed, closed_deps, either, without_parts, by_cases, side_closed, both_closed}
+use Rattle.proof_steps.specs.Steps.{when, numbered, states, side_of, closes, assumption_of, ascend_within, are_closed, closed_deps, either_marked, without_parts, by_cases, side_closed, both_closed}
 
 -- ---- what is assumed
 
@@ -54,7 +54,7 @@ assumption_of-two split side negated r = ap (option_map (λ c. states c (side_of
 abbrev pub AreBothSides : ℕ → ℕ → Type 0
 AreBothSides side other = (side ≡ 1) × (other ≡ 2) ⊎ (side ≡ 2) × (other ≡ 1)
 
-no_more : (marks : List Bool) → either marks [] ≡ marks
+no_more : (marks : List Bool) → either_marked marks [] ≡ marks
 no_more [] = refl
 no_more (m ∷ marks) = refl
 
@@ -114,13 +114,13 @@ nothing_left c marks h =
     let z = none_marked (drop (length c.constraint + length c.antecedent) marks) c.succedent (drop_none (length c.constraint + length c.antecedent) marks h) in
     λ i. record { constraint = x i; antecedent = y i; succedent = z i }
 
-all_marked : (marks : List Bool) → list_all not (map not (either marks (map not marks))) ≡ true
+all_marked : (marks : List Bool) → list_all not (map not (either_marked marks (map not marks))) ≡ true
 all_marked [] = refl
 all_marked (true ∷ marks) = all_marked marks
 all_marked (false ∷ marks) = all_marked marks
 
-each_marked : (marks : List Bool) → list_all not (map not (either marks (either (map not marks) []))) ≡ true
-each_marked marks = ap (λ ms. list_all not (map not (either marks ms))) (no_more (map not marks)) ∙ all_marked marks
+each_marked : (marks : List Bool) → list_all not (map not (either_marked marks (either_marked (map not marks) []))) ≡ true
+each_marked marks = ap (λ ms. list_all not (map not (either_marked marks ms))) (no_more (map not marks)) ∙ all_marked marks
 
 -- where the clause has parts, closing both of them by the one rule leaves the empty clause
 pub both_by_cases : (split : ℕ) (r e f : Statement) (parts : Parted) → parts_of r.clause ≡ Some parts → by_cases split (1 ∷ 2 ∷ []) r (e ∷ f ∷ []) ≡ both_closed split r e f
@@ -131,4 +131,4 @@ both_by_cases split r e f parts h = by_marks (closed_deps split r.deps (1 ∷ 2 
         ≡ when t (states (record { constraint = []; antecedent = []; succedent = [] }) deps)
     by_marks deps None h t = absurd (none-some _ h)
     by_marks deps (Some marks) h false = refl
-    by_marks deps (Some marks) h true = ap (λ c. Some (states (in_order c) deps)) (nothing_left r.clause (map not (either marks (either (map not marks) []))) (each_marked marks))
+    by_marks deps (Some marks) h true = ap (λ c. Some (states (in_order c) deps)) (nothing_left r.clause (map not (either_marked marks (either_marked (map not marks) []))) (each_marked marks))

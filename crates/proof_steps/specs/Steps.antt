@@ -33,8 +33,8 @@ abbrev pub when : {A : Type 0} → Bool → A → Option A
 when b a = if b then Some a else None
 
 -- one entry for each variable of the clause
-abbrev pub fits : List Term → Clause → Bool
-fits s c = length s == length (firsts (clause_variables c))
+abbrev pub has_entries : List Term → Clause → Bool
+has_entries s c = length s == length (firsts (clause_variables c))
 
 -- the clause without the atom at this place
 abbrev pub without : Part → ℕ → Clause → Clause
@@ -70,10 +70,10 @@ abbrev pub resolved : ℕ → Part → ℕ → Clause → Clause → Option Clau
 resolved i part j p q = when (may_resolve i part j p q) (in_order (resolvent i part j p q))
 
 abbrev pub resolution : ℕ → Part → ℕ → List Term → List Term → Clause → Clause → Option Clause
-resolution i part j s t p q = if fits s p && fits t q then resolved i part j (apply s p) (apply t q) else None
+resolution i part j s t p q = if has_entries s p && has_entries t q then resolved i part j (apply s p) (apply t q) else None
 
 abbrev pub factored : List Term → Clause → Option Clause
-factored s p = if fits s p then Some (in_order (apply s p)) else None
+factored s p = if has_entries s p then Some (in_order (apply s p)) else None
 
 -- ---- equations
 
@@ -91,14 +91,14 @@ abbrev pub paramodulated : ℕ → Bool → Spot → Clause → Clause → Optio
 paramodulated i right spot p q = option_and_then (rewritten i spot p q) (option_and_then (sides_of right) (slice_get p.succedent i))
 
 abbrev pub paramodulation : ℕ → Bool → Spot → List Term → List Term → Clause → Clause → Option Clause
-paramodulation i right spot s t p q = if fits s p && fits t q then paramodulated i right spot (apply s p) (apply t q) else None
+paramodulation i right spot s t p q = if has_entries s p && has_entries t q then paramodulated i right spot (apply s p) (apply t q) else None
 
 -- without an antecedent equation whose sides are equal
 abbrev pub reflexed : ℕ → Clause → Option Clause
 reflexed j p = option_and_then (λ a. when (has_equal_sides a) (in_order (without Antecedent j p))) (slice_get p.antecedent j)
 
 abbrev pub reflection : ℕ → List Term → Clause → Option Clause
-reflection j s p = if fits s p then reflexed j (apply s p) else None
+reflection j s p = if has_entries s p then reflexed j (apply s p) else None
 
 -- of u = v and u = w: without the first, and with v = w at the end of the antecedent
 abbrev pub factored_sides : ℕ → Clause → Term × Term → Term × Term → Option Clause
@@ -110,7 +110,7 @@ equality_factored i i_right j j_right p =
     option_and_then (λ first. option_and_then (factored_sides i p first) (option_and_then (sides_of j_right) (slice_get p.succedent j))) (option_and_then (sides_of i_right) (slice_get p.succedent i))
 
 abbrev pub equality_factoring : ℕ → Bool → ℕ → Bool → List Term → Clause → Option Clause
-equality_factoring i i_right j j_right s p = if fits s p then equality_factored i i_right j j_right (apply s p) else None
+equality_factoring i i_right j j_right s p = if has_entries s p then equality_factored i i_right j j_right (apply s p) else None
 
 -- ---- statements
 
@@ -181,15 +181,15 @@ closed_deps split whole (side ∷ sides) [] = whole
 closed_deps split whole (side ∷ sides) (e ∷ es) = united (freed_deps split (without_assumption (side_of split side) e.deps) sides es) whole
 
 -- a mark where one of the two has one; a shorter list has none past its end
-abbrev pub either : List Bool → List Bool → List Bool
-either [] bs = bs
-either (a ∷ as') [] = a ∷ as'
-either (a ∷ as') (b ∷ bs) = (a || b) ∷ either as' bs
+abbrev pub either_marked : List Bool → List Bool → List Bool
+either_marked [] bs = bs
+either_marked (a ∷ as') [] = a ∷ as'
+either_marked (a ∷ as') (b ∷ bs) = (a || b) ∷ either_marked as' bs
 
 -- a mark where one of the lists has one
 abbrev pub some_of : List (List Bool) → List Bool
 some_of [] = []
-some_of (ms ∷ more) = either ms (some_of more)
+some_of (ms ∷ more) = either_marked ms (some_of more)
 
 -- the clause without the atoms of the parts of these sides
 abbrev pub without_parts : List (List Bool) → List ℕ → Clause → Clause

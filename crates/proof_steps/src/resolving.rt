@@ -22,6 +22,15 @@ pub struct Literals {
     pub j: u32,
 }
 
+impl Literals {
+    /// The literals at these places.
+    pub fn new(i: u32, part: Part, j: u32) -> Literals
+        ensures { (result.i ≡ i) × (result.part ≡ part) × (result.j ≡ j) }
+    {
+        Literals { i, part, j }
+    }
+}
+
 // ---- the test
 
 fn is_negative(part: Part) -> bool
@@ -219,8 +228,14 @@ pub fn resolve_statements(
     if !applies(i, part, j, p, q) {
         return Ok(None);
     }
-    let literals = Literals { i, part, j };
-    resolved(alloc, literals, &p.clause, &q.clause, &p.deps, &q.deps)
+    resolved(
+        alloc,
+        Literals::new(i, part, j),
+        &p.clause,
+        &q.clause,
+        &p.deps,
+        &q.deps,
+    )
 }
 
 /// Whether `resolve_lines` concludes anything at these places, of any size; it takes no memory.

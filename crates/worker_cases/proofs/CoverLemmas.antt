@@ -15,7 +15,7 @@ use Rattle.spl_truth.specs.Truth.{apply}
 use Rattle.spl_truth.specs.SubsumptionLaws.{subsumes_itself}
 use Rattle.proof_steps.specs.declared.step.Statement.{Statement}
 use Rattle.proof_steps.specs.declared.step.Line.{Line}
-use Rattle.proof_steps.specs.Steps.{numbered, resolution, resolved, of_two, from_two, when, both_same, may_resolve, resolvent, fits}
+use Rattle.proof_steps.specs.Steps.{numbered, resolution, resolved, of_two, from_two, when, both_same, may_resolve, resolvent, has_entries}
 use Rattle.proof_steps.specs.Checked.{resolution_of_lines, stated}
 use Rattle.worker_cases.specs.Covering.{Listing, IsCovered, IsNumber, IsCoveredAt, IsCoveredPair, Grows}
 use Rattle.worker_cases.specs.Working.{Counts}
@@ -108,7 +108,7 @@ part_length q Succedent = length_map _ q.succedent
 
 may_at : (i : ℕ) (part : Part) (j : ℕ) (p q c : Clause) → resolution i part j [] [] p q ≡ Some c → may_resolve i part j (apply [] p) (apply [] q) ≡ true
 may_at i part j p q c e =
-    let is : resolved i part j (apply [] p) (apply [] q) ≡ Some c = by_test (fits [] p && fits [] q) (resolved i part j (apply [] p) (apply [] q)) c e in
+    let is : resolved i part j (apply [] p) (apply [] q) ≡ Some c = by_test (has_entries [] p && has_entries [] q) (resolved i part j (apply [] p) (apply [] q)) c e in
     when_true (may_resolve i part j (apply [] p) (apply [] q)) (in_order (resolvent i part j (apply [] p) (apply [] q))) c is
 
 both_there : (o r : Option Atom) → both_same o r ≡ true → IsSomeAnd o (λ a. a ≡ a) × IsSomeAnd r (λ a. a ≡ a)

@@ -22,7 +22,7 @@ use Rattle.case_journal.specs.Journal.{Setting, ledger}
 use Rattle.case_journal.specs.Legal.{IsLegalJournal}
 use Rattle.worker_cases.specs.Working.{AreOrdered, IsSound}
 use Rattle.proof_steps.specs.Parts.{Parted, parts_of, part_by, parted_by, left_marks, negation, negated_atom}
-use Rattle.proof_steps.specs.Steps.{numbered, when, fits, without, joined, may_resolve, resolvent, resolved, paramodulated, sides_of, reflexed, equality_factored, conclude, concluded, of_one, of_two, of_three, resolution, factored, paramodulation, rewritten, reflection, equality_factoring, factored_sides, assumption_of, side_closed, both_closed}
+use Rattle.proof_steps.specs.Steps.{numbered, when, has_entries, without, joined, may_resolve, resolvent, resolved, paramodulated, sides_of, reflexed, equality_factored, conclude, concluded, of_one, of_two, of_three, resolution, factored, paramodulation, rewritten, reflection, equality_factoring, factored_sides, assumption_of, side_closed, both_closed}
 use Rattle.proof_steps.specs.SplitLaws.{assumed_of_two, assumption_of-two, left_closed, right_closed}
 
 abbrev pub IsInOrder : Clause → Type 0
@@ -69,10 +69,10 @@ ordered_when b x c e = (x, sym (some_when b (in_order x) c e))
 -- ---- the rules
 
 by_resolution : (i : ℕ) (part : _) (j : ℕ) (s t : List Term) (p q c : Clause) → resolution i part j s t p q ≡ Some c → IsInOrder c
-by_resolution i part j s t p q c e = ordered_when (may_resolve i part j (apply s p) (apply t q)) (resolvent i part j (apply s p) (apply t q)) c (some_if (fits s p && fits t q) (resolved i part j (apply s p) (apply t q)) c e)
+by_resolution i part j s t p q c e = ordered_when (may_resolve i part j (apply s p) (apply t q)) (resolvent i part j (apply s p) (apply t q)) c (some_if (has_entries s p && has_entries t q) (resolved i part j (apply s p) (apply t q)) c e)
 
 by_factor : (s : List Term) (p c : Clause) → factored s p ≡ Some c → IsInOrder c
-by_factor s p c e = let h : Some (in_order (apply s p)) ≡ Some c = some_if (fits s p) (Some (in_order (apply s p))) c e in let same : in_order (apply s p) ≡ c = cc in (apply s p, sym same)
+by_factor s p c e = let h : Some (in_order (apply s p)) ≡ Some c = some_if (has_entries s p) (Some (in_order (apply s p))) c e in let same : in_order (apply s p) ≡ c = cc in (apply s p, sym same)
 
 by_rewriting : (i : ℕ) (spot : _) (p q c : Clause) (sides : Term × Term) → rewritten i spot p q sides ≡ Some c → IsInOrder c
 by_rewriting i spot p q c (l, r) e =
@@ -81,12 +81,12 @@ by_rewriting i spot p q c (l, r) e =
 
 by_paramodulation : (i : ℕ) (right : Bool) (spot : _) (s t : List Term) (p q c : Clause) → paramodulation i right spot s t p q ≡ Some c → IsInOrder c
 by_paramodulation i right spot s t p q c e =
-    let h = some_then (rewritten i spot (apply s p) (apply t q)) (option_and_then (sides_of right) (slice_get (apply s p).succedent i)) c (some_if (fits s p && fits t q) (paramodulated i right spot (apply s p) (apply t q)) c e) in
+    let h = some_then (rewritten i spot (apply s p) (apply t q)) (option_and_then (sides_of right) (slice_get (apply s p).succedent i)) c (some_if (has_entries s p && has_entries t q) (paramodulated i right spot (apply s p) (apply t q)) c e) in
     by_rewriting i spot (apply s p) (apply t q) c h.0 h.1
 
 by_reflection : (j : ℕ) (s : List Term) (p c : Clause) → reflection j s p ≡ Some c → IsInOrder c
 by_reflection j s p c e =
-    let h = some_then (λ a. when (has_equal_sides a) (in_order (without Antecedent j (apply s p)))) (slice_get (apply s p).antecedent j) c (some_if (fits s p) (reflexed j (apply s p)) c e) in
+    let h = some_then (λ a. when (has_equal_sides a) (in_order (without Antecedent j (apply s p)))) (slice_get (apply s p).antecedent j) c (some_if (has_entries s p) (reflexed j (apply s p)) c e) in
     ordered_when (has_equal_sides h.0) (without Antecedent j (apply s p)) c h.1
 
 by_sides : (i : ℕ) (p c : Clause) (a b : Term × Term) → factored_sides i p a b ≡ Some c → IsInOrder c
@@ -95,7 +95,7 @@ by_sides i p c (u, v) (x, w) e = ordered_when (term_eq u x) (let d = without Suc
 by_equality_factoring : (i : ℕ) (i_right : Bool) (j : ℕ) (j_right : Bool) (s : List Term) (p c : Clause) → equality_factoring i i_right j j_right s p ≡ Some c → IsInOrder c
 by_equality_factoring i i_right j j_right s p c e =
     let x = apply s p in
-    let h = some_then (λ first. option_and_then (factored_sides i x first) (option_and_then (sides_of j_right) (slice_get x.succedent j))) (option_and_then (sides_of i_right) (slice_get x.succedent i)) c (some_unless (i == j) _ c (some_if (fits s p) (equality_factored i i_right j j_right x) c e)) in
+    let h = some_then (λ first. option_and_then (factored_sides i x first) (option_and_then (sides_of j_right) (slice_get x.succedent j))) (option_and_then (sides_of i_right) (slice_get x.succedent i)) c (some_unless (i == j) _ c (some_if (has_entries s p) (equality_factored i i_right j j_right x) c e)) in
     let k = some_then (factored_sides i x h.0) (option_and_then (sides_of j_right) (slice_get x.succedent j)) c h.1 in
     by_sides i (apply s p) c h.0 k.0 k.1
 
