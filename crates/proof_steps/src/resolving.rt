@@ -228,14 +228,8 @@ pub fn resolve_statements(
     if !applies(i, part, j, p, q) {
         return Ok(None);
     }
-    resolved(
-        alloc,
-        Literals::new(i, part, j),
-        &p.clause,
-        &q.clause,
-        &p.deps,
-        &q.deps,
-    )
+    let literals = Literals { i, part, j };
+    resolved(alloc, literals, &p.clause, &q.clause, &p.deps, &q.deps)
 }
 
 /// Whether `resolve_lines` concludes anything at these places, of any size; it takes no memory.
