@@ -3,6 +3,7 @@ use Rattle.std.specs.Prelude.{◌%◌, ◌==◌, MatchOption, IsSomeAnd}
 use Rattle.std.proofs.Common.{◌≡◌, ℕ, zero, suc, ◌+◌, ◌*◌, ◌-◌, ◌/◌, ◌<◌, ◌≤◌, ◌⊎◌, inl, inr, true, false, eqb, List, [], ◌∷◌, ◌++◌, length, Option, Some, None, refl, sym, ◌∙◌, ap, subst, arith, length-append}
 use Rattle.std.proofs.lemmas.Bool.{or_cases, or_right, eqb-true, cases_Bool, cond-true, cond-false, false≢true, false_from_ne_true, eqb-false}
 use Rattle.std.specs.List.{slice_get}
+use Rattle.spl_terms.specs.ListLaws.{get-there}
 use Rattle.spl_terms.specs.Clauses.{is_empty}
 use Rattle.dep_sets.specs.declared.deps.Assumption.{Assumption}
 use Rattle.proof_steps.specs.declared.step.Line.{Line}
@@ -115,17 +116,12 @@ parent_live s past v w at number deps y b h dead =
     let on : on_path e at b.parent ≡ true = k.goes b.parent ∙ or_right (eqb b.parent at) (on_path e k.up.parent b.parent) (ap (λ x. on_path e x.parent b.parent) r ∙ on_path-self e b.parent) in
     q.1 (dead_below s e q.0 at b.parent q.2 on old)
 
-line_at : {A : Type 0} (xs : List A) (k : ℕ) → k < length xs → (x : A) × (slice_get xs k ≡ Some x)
-line_at [] k h = absurd (omega arith)
-line_at (x ∷ xs) zero h = (x, refl)
-line_at (x ∷ xs) (suc k) h = line_at xs k (omega arith)
-
 -- an empty clause of a node that is not below is the same one before
 empty_outside : (s : Setting) (past v : List Entry) (w at number : ℕ) (deps : List Assumption) → IsLegalJournal s past → IsOnTheWay s past v w at number deps → (k i : ℕ) → k < nodes past → on_path v k at ≡ false → IsEmptyAt s v k i → IsEmptyAt s past k i
 empty_outside s past v w at number deps legal y k i low off d =
     let lists = sym (y.outside k i low off) ∙ d.lists in
     let r = listed_within s past legal k i lists in
-    let l = line_at (ledger s past) (i - 1) (omega (arith, r.0, r.1)) in
+    let l = get-there (ledger s past) (i - 1) (omega (arith, r.0, r.1)) in
     let old = numbered_get (ledger s past) i r.0 ∙ l.1 in
     let same : Some l.0 ≡ Some d.line = sym (y.found i l.0 old) ∙ d.found in
     let q : l.0 ≡ d.line = cc in
@@ -392,7 +388,7 @@ parent_read s past legal at inner clause some there above =
     (omega (arith, q.0, r.0), (omega (arith, q.1, w.0), omega (arith, q.1, w.1)))
 
 pub line_there : (s : Setting) (past : List Entry) (n : ℕ) → (1 ≤ n) × (n ≤ steps s past) → (l : Line) × (numbered (ledger s past) n ≡ Some l)
-line_there s past n h = let l = line_at (ledger s past) (n - 1) (omega (arith, h.0, h.1)) in (l.0, numbered_get (ledger s past) n h.0 ∙ l.1)
+line_there s past n h = let l = get-there (ledger s past) (n - 1) (omega (arith, h.0, h.1)) in (l.0, numbered_get (ledger s past) n h.0 ∙ l.1)
 
 pub next_event : (s : Setting) (past : List Entry) → IsLegalJournal s past → (at number inner clause twin twin_empty node : ℕ) (deps more : List Assumption) (line : Line) (ev : Event) → 0 < at → at < nodes past
     → ((b : Branch) → branch past at ≡ Some b → (b.parent ≡ inner) × (b.assumed.split ≡ clause)) → twin ≡ twin_of at → IsFirstEmpty s past twin twin_empty

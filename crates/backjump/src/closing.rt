@@ -114,7 +114,8 @@ fn planned(
     requires legal { IsLegal table.now.setting table.now.past by (Publish node chain false) }
     requires settled { IsSettled table.now.setting table.now.past }
     requires empty { IsSomeAnd (last_line chain) (λ l. is_empty l.stated.clause ≡ true) }
-    ensures { IfOk result (λ events. IsPlan table.now.setting table.now.past by (Publish node chain false) events.items) }
+    ensures { IfOk result (λ events. IsPlan table.now.setting table.now.past by
+        (Publish node chain false) events.items) }
 {
     table.laws();
     let mut number = next_number(table.steps())?;
@@ -174,7 +175,8 @@ pub fn close(
     requires settled { IsSettled table.old.setting table.old.past }
     requires empty { IsSomeAnd (last_line chain) (λ l. is_empty l.stated.clause ≡ true) }
     ensures setting { table.new.setting ≡ table.old.setting }
-    ensures closes { OnOk result (OnlyCloses by (record { by = by; event = Publish node chain false } ∷ table.old.past) table.new.past) }
+    ensures closes { OnOk result (OnlyCloses by (record { by = by; event = Publish node chain false } ∷ table.old.past)
+        table.new.past) }
     ensures settled { OnOk result (IsSettled table.new.setting table.new.past) }
     ensures ended { OnOk result (IsOpenOrProved table.new.past) }
     ensures err { OnErr result (table.new ≡ table.old) }

@@ -37,7 +37,8 @@ pub fn publication(
     line: Line,
 ) -> Result<Event, AllocError>
     requires { inner < nodes table.now.past }
-    ensures { IfOk result (λ event. event ≡ Publish (owner table.now.past line.stated.deps inner) (line ∷ []) false) }
+    ensures { IfOk result (λ event. event
+        ≡ Publish (owner table.now.past line.stated.deps inner) (line ∷ []) false) }
 {
     let node = table.owner(inner, &line.stated.deps);
     let mut chain = Items::new(alloc);

@@ -14,8 +14,8 @@ abbrev pub next_fails : Calls → Bool
 next_fails c = list_any (λ n. n == next_count c.made) c.failing
 
 -- the calls with one more
-abbrev pub one_more : Calls → Calls
-one_more c = record { failing = c.failing; made = next_count c.made; faults = count_after (next_fails c) c.faults }
+abbrev pub one_more_call : Calls → Calls
+one_more_call c = record { failing = c.failing; made = next_count c.made; faults = count_after (next_fails c) c.faults }
 
 -- the bytes to come, and how many a call gives at most
 pub record Rest : Type 0 where

@@ -3,7 +3,7 @@ ghost use Rattle.std.specs.Prelude.{◌≡◌, ◌<◌, ◌≤◌, ◌+◌, ◌-
 ghost use Rattle.std.specs.Io.{ReadsAtMost, WritesAtMost};
 ghost use Rattle.std.specs.Io.KnownBytes.{ReadConsumes, WriteAppends};
 ghost use Rattle.outside_io.specs.Outside.{count_after, is_write_fault};
-ghost use Rattle.outside_io.specs.Memory.{next_fails, one_more};
+ghost use Rattle.outside_io.specs.Memory.{next_fails, one_more_call};
 
 use crate::errors::{Failed, WriteError};
 use crate::traits::{Sink, Source};
@@ -40,7 +40,7 @@ impl Failing {
     /// Counts one more call, and says whether it fails.
     fn next_fails(&mut self) -> bool
         ensures answer { result ≡ next_fails self.old }
-        ensures after { self.new ≡ one_more self.old }
+        ensures after { self.new ≡ one_more_call self.old }
     {
         self.made = self.made.saturating_add(1);
         let fails = self.fail.contains(&self.made);
@@ -118,7 +118,7 @@ impl Source for MemorySource {
         // What this source says beyond any source.
         ensures fails { is_err result ≡ next_fails self.old.calls }
         ensures count { IfOk result (λ n. n ≡ min self.old.piece (min (length buf.old) (length self.old.rest))) }
-        ensures calls { self.new.calls ≡ one_more self.old.calls }
+        ensures calls { self.new.calls ≡ one_more_call self.old.calls }
         ensures piece { self.new.piece ≡ self.old.piece }
     {
         if self.failing.next_fails() {
@@ -192,7 +192,7 @@ impl Sink for MemorySink {
         // What this sink says beyond any sink.
         ensures fails { IsErrOf result WriteError.Fault ↔ IsTrue (next_fails self.old.calls) }
         ensures count { IfOk result (λ n. n ≡ min self.old.piece (length piece.now)) }
-        ensures calls { self.new.calls ≡ one_more self.old.calls }
+        ensures calls { self.new.calls ≡ one_more_call self.old.calls }
         ensures piece { self.new.piece ≡ self.old.piece }
     {
         if self.failing.next_fails() {

@@ -26,6 +26,6 @@ counts_from n [] = []
 counts_from n (b ∷ bs) = (n + marked_count (b ∷ [])) ∷ counts_from (n + marked_count (b ∷ [])) bs
 
 -- the line, renumbered, if its mark is set
-abbrev pub taken : (ℕ → ℕ) → Option Bool → Option Line → List Line
-taken f (Some true) (Some l) = renumbered_line f l ∷ []
-taken f _ _ = []
+abbrev pub line_if_marked : (ℕ → ℕ) → Option Bool → Option Line → List Line
+line_if_marked f (Some true) (Some l) = renumbered_line f l ∷ []
+line_if_marked f _ _ = []

@@ -5,7 +5,7 @@ ghost use Rattle.proof_steps.specs.Steps.{numbered};
 ghost use Rattle.proof_steps.specs.Checked.{AreConclusions, Checked};
 ghost use Rattle.case_journal.specs.Journal.{ledger, steps};
 ghost use Rattle.proof_extract.specs.Extracting.{AreSplitsMarked, new_number, extracted, IsProofOf};
-ghost use Rattle.proof_extract.specs.Marking.{counts_from, taken};
+ghost use Rattle.proof_extract.specs.Marking.{counts_from, line_if_marked};
 ghost use Rattle.proof_extract.specs.Contradictions.{IsContradictory};
 
 use crate::marking::{ancestors, counts};
@@ -37,7 +37,7 @@ fn add_line(
     requires some { 1 ≤ number }
     requires marked { number ≤ length marks.now }
     requires there { number ≤ steps table.now.setting table.now.past }
-    ensures { OnOk result (out.new ≡ out.old ++ taken (new_number marks.now) (numbered marks.now number)
+    ensures { OnOk result (out.new ≡ out.old ++ line_if_marked (new_number marks.now) (numbered marks.now number)
         (numbered (ledger table.now.setting table.now.past) number)) }
 {
     if marks[number as usize - 1] {

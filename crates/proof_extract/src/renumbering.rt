@@ -1,6 +1,7 @@
 //! Copies of lines, with other numbers.
 ghost use Rattle.std.specs.Prelude.{◌≡◌, map, IfOk};
 ghost use Rattle.std.specs.List.{AllByRecursion};
+ghost use Rattle.proof_steps.specs.declared.step.Rule.TheVariants.{Paramodulate, EqFactor};
 ghost use Rattle.proof_extract.specs.Extracting.{IsMarked, new_number, renumbered_deps, renumbered_statement, renumbered_step, renumbered_line};
 ghost use Rattle.proof_extract.specs.Marking.{counts_from};
 
@@ -86,6 +87,44 @@ fn copy_spot(alloc: Global, spot: &Spot) -> Result<Spot, AllocError>
     })
 }
 
+fn copy_paramodulation(
+    alloc: Global,
+    i: u32,
+    right_to_left: bool,
+    spot: &Spot,
+    s: &Subst,
+    t: &Subst,
+) -> Result<Rule, AllocError>
+    ensures { IfOk result (λ made. made ≡ Paramodulate i right_to_left spot.now s.now t.now) }
+{
+    Ok(Rule::Paramodulate {
+        i,
+        right_to_left,
+        spot: copy_spot(alloc, spot)?,
+        s: copy_subst(alloc, s)?,
+        t: copy_subst(alloc, t)?,
+    })
+}
+
+fn copy_equality_factoring(
+    alloc: Global,
+    i: u32,
+    i_right: bool,
+    j: u32,
+    j_right: bool,
+    s: &Subst,
+) -> Result<Rule, AllocError>
+    ensures { IfOk result (λ made. made ≡ EqFactor i i_right j j_right s.now) }
+{
+    Ok(Rule::EqFactor {
+        i,
+        i_right,
+        j,
+        j_right,
+        s: copy_subst(alloc, s)?,
+    })
+}
+
 fn copy_rule(alloc: Global, rule: &Rule) -> Result<Rule, AllocError>
     ensures { IfOk result (λ made. made ≡ rule.now) }
 {
@@ -107,13 +146,7 @@ fn copy_rule(alloc: Global, rule: &Rule) -> Result<Rule, AllocError>
             spot,
             s,
             t,
-        } => Rule::Paramodulate {
-            i: *i,
-            right_to_left: *right_to_left,
-            spot: copy_spot(alloc, spot)?,
-            s: copy_subst(alloc, s)?,
-            t: copy_subst(alloc, t)?,
-        },
+        } => copy_paramodulation(alloc, *i, *right_to_left, spot, s, t)?,
         Rule::Reflex { j, s } => Rule::Reflex {
             j: *j,
             s: copy_subst(alloc, s)?,
@@ -124,13 +157,7 @@ fn copy_rule(alloc: Global, rule: &Rule) -> Result<Rule, AllocError>
             j,
             j_right,
             s,
-        } => Rule::EqFactor {
-            i: *i,
-            i_right: *i_right,
-            j: *j,
-            j_right: *j_right,
-            s: copy_subst(alloc, s)?,
-        },
+        } => copy_equality_factoring(alloc, *i, *i_right, *j, *j_right, s)?,
         Rule::Assume { side, negated } => Rule::Assume {
             side: *side,
             negated: *negated,
