@@ -1,0 +1,10 @@
+pub mod Holders
+pub mod Frame
+pub mod Conclusions
+pub mod Publishing
+pub mod Finishing
+pub mod Choice
+pub mod Order
+pub mod Moves
+pub mod Since
+pub mod PathAlone
