@@ -6,7 +6,7 @@ use Rattle.proof_steps.specs.declared.step.Rule.TheVariants.{Input, Resolve, Fac
 use Rattle.proof_steps.specs.declared.step.Statement.{Statement}
 use Rattle.proof_steps.specs.declared.step.Line.{Line}
 use Rattle.spl_terms.specs.Lists.{numbered}
-use Rattle.proof_steps.specs.Steps.{of_one, of_two, of_three, from_one, from_two, resolution, factored, paramodulation, reflection, equality_factoring, assumption_of, case_left, case_right, case_both, concluded}
+use Rattle.proof_steps.specs.Steps.{of_one, of_two, of_three, from_one, from_two, resolution, factored, paramodulation, reflection, equality_factoring, assumption_of, side_closed, both_closed, concluded}
 use Rattle.proof_steps.specs.Checked.{IsConclusion, stated}
 use Rattle.case_journal.specs.LedgerLaws.{numbered_more}
 
@@ -36,9 +36,9 @@ concluded_more input earlier more (Paramodulate i right spot s t) (m ∷ n ∷ [
 concluded_more input earlier more (Reflex j s) (m ∷ []) st h = one_more (from_one (reflection j s.terms)) earlier more m st (numbered earlier m) refl h
 concluded_more input earlier more (EqFactor i i_right j j_right s) (m ∷ []) st h = one_more (from_one (equality_factoring i i_right j j_right s.terms)) earlier more m st (numbered earlier m) refl h
 concluded_more input earlier more (Assume side negated) (m ∷ []) st h = one_more (assumption_of m side negated) earlier more m st (numbered earlier m) refl h
-concluded_more input earlier more CaseLeft (m ∷ n ∷ []) st h = two_more (case_left m) earlier more m n st (numbered earlier m) (numbered earlier n) refl refl h
-concluded_more input earlier more CaseRight (m ∷ n ∷ []) st h = two_more (case_right m) earlier more m n st (numbered earlier m) (numbered earlier n) refl refl h
-concluded_more input earlier more CaseBoth (m ∷ n ∷ k ∷ []) st h = three_more (case_both m) earlier more m n k st (numbered earlier m) refl h
+concluded_more input earlier more CaseLeft (m ∷ n ∷ []) st h = two_more (side_closed m 1) earlier more m n st (numbered earlier m) (numbered earlier n) refl refl h
+concluded_more input earlier more CaseRight (m ∷ n ∷ []) st h = two_more (side_closed m 2) earlier more m n st (numbered earlier m) (numbered earlier n) refl refl h
+concluded_more input earlier more CaseBoth (m ∷ n ∷ k ∷ []) st h = three_more (both_closed m) earlier more m n k st (numbered earlier m) refl h
 concluded_more input earlier more _ _ st h = absurd (cc)
 
 pub stated_append : (xs ys : List Line) → stated (xs ++ ys) ≡ stated xs ++ stated ys

@@ -19,7 +19,8 @@ use Rattle.proof_steps.specs.declared.step.Line.{Line}
 use Rattle.proof_steps.specs.Checked.{AreConclusions, stated}
 use Rattle.clause_parts.specs.Parts.{Parted, parts_of, part_by, parted_by, left_marks, negation, negated_atom}
 use Rattle.spl_terms.specs.Lists.{numbered}
-use Rattle.proof_steps.specs.Steps.{when, fits, without, joined, may_resolve, resolvent, resolved, paramodulated, sides_of, reflexed, equality_factored, conclude, concluded, of_one, of_two, of_three, resolution, factored, paramodulation, rewritten, reflection, equality_factoring, factored_sides, assumed, assumption_of, case_left, case_right, case_both}
+use Rattle.proof_steps.specs.Steps.{when, has_entries, without, joined, may_resolve, resolvent, resolved, paramodulated, sides_of, reflexed, equality_factored, conclude, concluded, of_one, of_two, of_three, resolution, factored, paramodulation, rewritten, reflection, equality_factoring, factored_sides, assumption_of, side_closed, both_closed}
+use Rattle.proof_steps.specs.SplitLaws.{assumed_of_two, assumption_of-two, left_closed, right_closed}
 
 abbrev pub IsInOrder : Clause → Type 0
 IsInOrder c = (x : Clause) × (c ≡ in_order x)
@@ -65,10 +66,10 @@ ordered_when b x c e = (x, sym (some_when b (in_order x) c e))
 -- ---- the rules
 
 by_resolution : (i : ℕ) (part : _) (j : ℕ) (s t : List Term) (p q c : Clause) → resolution i part j s t p q ≡ Some c → IsInOrder c
-by_resolution i part j s t p q c e = ordered_when (may_resolve i part j (apply s p) (apply t q)) (resolvent i part j (apply s p) (apply t q)) c (some_if (fits s p && fits t q) (resolved i part j (apply s p) (apply t q)) c e)
+by_resolution i part j s t p q c e = ordered_when (may_resolve i part j (apply s p) (apply t q)) (resolvent i part j (apply s p) (apply t q)) c (some_if (has_entries s p && has_entries t q) (resolved i part j (apply s p) (apply t q)) c e)
 
 by_factor : (s : List Term) (p c : Clause) → factored s p ≡ Some c → IsInOrder c
-by_factor s p c e = let h : Some (in_order (apply s p)) ≡ Some c = some_if (fits s p) (Some (in_order (apply s p))) c e in let same : in_order (apply s p) ≡ c = cc in (apply s p, sym same)
+by_factor s p c e = let h : Some (in_order (apply s p)) ≡ Some c = some_if (has_entries s p) (Some (in_order (apply s p))) c e in let same : in_order (apply s p) ≡ c = cc in (apply s p, sym same)
 
 by_rewriting : (i : ℕ) (spot : _) (p q c : Clause) (sides : Term × Term) → rewritten i spot p q sides ≡ Some c → IsInOrder c
 by_rewriting i spot p q c (l, r) e =
@@ -77,12 +78,12 @@ by_rewriting i spot p q c (l, r) e =
 
 by_paramodulation : (i : ℕ) (right : Bool) (spot : _) (s t : List Term) (p q c : Clause) → paramodulation i right spot s t p q ≡ Some c → IsInOrder c
 by_paramodulation i right spot s t p q c e =
-    let h = some_then (rewritten i spot (apply s p) (apply t q)) (option_and_then (sides_of right) (slice_get (apply s p).succedent i)) c (some_if (fits s p && fits t q) (paramodulated i right spot (apply s p) (apply t q)) c e) in
+    let h = some_then (rewritten i spot (apply s p) (apply t q)) (option_and_then (sides_of right) (slice_get (apply s p).succedent i)) c (some_if (has_entries s p && has_entries t q) (paramodulated i right spot (apply s p) (apply t q)) c e) in
     by_rewriting i spot (apply s p) (apply t q) c h.0 h.1
 
 by_reflection : (j : ℕ) (s : List Term) (p c : Clause) → reflection j s p ≡ Some c → IsInOrder c
 by_reflection j s p c e =
-    let h = some_then (λ a. when (has_equal_sides a) (in_order (without Antecedent j (apply s p)))) (slice_get (apply s p).antecedent j) c (some_if (fits s p) (reflexed j (apply s p)) c e) in
+    let h = some_then (λ a. when (has_equal_sides a) (in_order (without Antecedent j (apply s p)))) (slice_get (apply s p).antecedent j) c (some_if (has_entries s p) (reflexed j (apply s p)) c e) in
     ordered_when (has_equal_sides h.0) (without Antecedent j (apply s p)) c h.1
 
 by_sides : (i : ℕ) (p c : Clause) (a b : Term × Term) → factored_sides i p a b ≡ Some c → IsInOrder c
@@ -91,7 +92,7 @@ by_sides i p c (u, v) (x, w) e = ordered_when (term_eq u x) (let d = without Suc
 by_equality_factoring : (i : ℕ) (i_right : Bool) (j : ℕ) (j_right : Bool) (s : List Term) (p c : Clause) → equality_factoring i i_right j j_right s p ≡ Some c → IsInOrder c
 by_equality_factoring i i_right j j_right s p c e =
     let x = apply s p in
-    let h = some_then (λ first. option_and_then (factored_sides i x first) (option_and_then (sides_of j_right) (slice_get x.succedent j))) (option_and_then (sides_of i_right) (slice_get x.succedent i)) c (some_unless (i == j) _ c (some_if (fits s p) (equality_factored i i_right j j_right x) c e)) in
+    let h = some_then (λ first. option_and_then (factored_sides i x first) (option_and_then (sides_of j_right) (slice_get x.succedent j))) (option_and_then (sides_of i_right) (slice_get x.succedent i)) c (some_unless (i == j) _ c (some_if (has_entries s p) (equality_factored i i_right j j_right x) c e)) in
     let k = some_then (factored_sides i x h.0) (option_and_then (sides_of j_right) (slice_get x.succedent j)) c h.1 in
     by_sides i (apply s p) c h.0 k.0 k.1
 
@@ -108,11 +109,11 @@ side_one_or_two true b l r c e hl hr = let same : l ≡ c = cc in subst IsInOrde
 side_one_or_two false true l r c e hl hr = let same : r ≡ c = cc in subst IsInOrder same hr
 side_one_or_two false false l r c e hl hr = absurd (cc)
 
-by_assumption : (side : ℕ) (negated : Option ℕ) (d c : Clause) (parts : Parted) → parts_of d ≡ Some parts → assumed side negated parts ≡ Some c → IsInOrder c
+by_assumption : (side : ℕ) (negated : Option ℕ) (d c : Clause) (parts : Parted) → parts_of d ≡ Some parts → assumed_of_two side negated parts ≡ Some c → IsInOrder c
 by_assumption side None d c parts is e = let h = parts_ordered d parts is in side_one_or_two (side == 1) (side == 2) parts.left parts.right c e h.0 h.1
 by_assumption side (Some k) d c parts is e = by_negation k parts.left c (some_if _ _ c e)
 
-assumed_from : (side : ℕ) (negated : Option ℕ) (d c : Clause) (o : Option Parted) → parts_of d ≡ o → option_and_then (assumed side negated) o ≡ Some c → IsInOrder c
+assumed_from : (side : ℕ) (negated : Option ℕ) (d c : Clause) (o : Option Parted) → parts_of d ≡ o → option_and_then (assumed_of_two side negated) o ≡ Some c → IsInOrder c
 assumed_from side negated d c None is e = absurd (cc)
 assumed_from side negated d c (Some parts) is e = by_assumption side negated d c parts is e
 
@@ -140,18 +141,18 @@ ordered_by input earlier (EqFactor i i_right j j_right a) (m ∷ []) s e =
     subst IsInOrder (ap (λ (t : Statement). t.clause) c.2) (by_equality_factoring i i_right j j_right a.terms p.0.clause c.0 c.1)
 ordered_by input earlier (Assume side negated) (m ∷ []) s e =
     let p = some_of_one (assumption_of m side negated) (numbered earlier m) s e in
-    let c = some_map _ (option_and_then (assumed side negated) (parts_of p.0.clause)) s p.1 in
+    let c = some_map _ (option_and_then (assumed_of_two side negated) (parts_of p.0.clause)) s (sym (assumption_of-two m side negated p.0) ∙ p.1) in
     subst IsInOrder (ap (λ (t : Statement). t.clause) c.2) (assumed_from side negated p.0.clause c.0 (parts_of p.0.clause) refl c.1)
 ordered_by input earlier CaseLeft (m ∷ n ∷ []) s e =
-    let p = some_of_two (case_left m) (numbered earlier m) (numbered earlier n) s e in
-    let c = some_map _ (parts_of p.0.clause) s (some_if _ _ s p.2) in
+    let p = some_of_two (side_closed m 1) (numbered earlier m) (numbered earlier n) s e in
+    let c = some_map _ (parts_of p.0.clause) s (some_if _ _ s (sym (left_closed m p.0 p.1) ∙ p.2)) in
     subst IsInOrder (ap (λ (t : Statement). t.clause) c.2) (parts_ordered p.0.clause c.0 c.1).1
 ordered_by input earlier CaseRight (m ∷ n ∷ []) s e =
-    let p = some_of_two (case_right m) (numbered earlier m) (numbered earlier n) s e in
-    let c = some_map _ (parts_of p.0.clause) s (some_if _ _ s p.2) in
+    let p = some_of_two (side_closed m 2) (numbered earlier m) (numbered earlier n) s e in
+    let c = some_map _ (parts_of p.0.clause) s (some_if _ _ s (sym (right_closed m p.0 p.1) ∙ p.2)) in
     subst IsInOrder (ap (λ (t : Statement). t.clause) c.2) (parts_ordered p.0.clause c.0 c.1).0
 ordered_by input earlier CaseBoth (m ∷ n ∷ o ∷ []) s e =
-    let p = some_of_three (case_both m) (numbered earlier m) (numbered earlier n) (numbered earlier o) s e in
+    let p = some_of_three (both_closed m) (numbered earlier m) (numbered earlier n) (numbered earlier o) s e in
     (record { constraint = []; antecedent = []; succedent = [] }, ap (λ (t : Statement). t.clause) (sym (some_when _ _ s p.3)))
 ordered_by input earlier _ _ s e = absurd (cc)
 
