@@ -159,7 +159,7 @@ Deals {E} {G} here n m old new next = (g : G) → old ≡ dealing here g n (m + 
 
 -- a row begins with the first seat, while m numbers have no seat yet
 abbrev pub IsFirst : {E G : Type 0} → Cell → G → ℕ → List (SeatSeen E G) → Type 0
-IsFirst here g m row = (s : _) → slice_get row 0 ≡ Some s → Row here g 1 m 0 s
+IsFirst here g m seats = (s : _) → slice_get seats 0 ≡ Some s → Row here g 1 m 0 s
 
 -- from a row that begins with the first seat a row of n seats was made, and no number is left
 abbrev pub DealsAll : {E G : Type 0} → Cell → ℕ → List (SeatSeen E G) → List (SeatSeen E G) → Type 0
