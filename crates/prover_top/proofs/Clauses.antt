@@ -14,7 +14,7 @@ use Rattle.prover_top.specs.declared.answers.Answer.{Answer}
 use Rattle.prover_top.specs.declared.answers.Answer.TheVariants.{ProofFound, Completion, Rounds, Steps, Size, Words, Input, TooLong, ReadFault, Memory}
 use Rattle.prover_top.specs.Words.{limits_of}
 use Rattle.prover_top.specs.Answers.{is_fault}
-use Rattle.prover_top.specs.Endings.{IsContradicted, IsComplete, IsSpent, IsFull, IsLarge}
+use Rattle.prover_top.specs.Endings.{IsContradicted, IsComplete, IsSpent, IsFull, IsOversized}
 use Rattle.prover_top.specs.Outcomes.{Call, most_bytes, IsInput, IsRefused, answer_for, answer_of, IsTried, IsCause}
 use Rattle.prover_top.specs.Reports.{IsOutcome, HasTable, HasProof, IsOfProving, IsUnlessMemory, IsTold}
 use Rattle.prover_top.proofs.Ends.{IsCaused, caused, proved_of}
@@ -182,7 +182,7 @@ module _ (call : Call) (reported : Answer) (failed : Bool) (old new : Option (Li
   steps_only None o limit e = none_of (Steps limit) e (λ f. absurd (cc)) o (λ s p h. absurd h.decided)
   steps_only (Some t) o limit e = cause_of t o (Steps limit) e (λ f. absurd (cc))
 
-  pub size_only : (table : Option State) → IsOutcome call table reported failed old new → (symbols : ℕ) → reported ≡ Size symbols → IsSomeAnd table (IsLarge symbols)
+  pub size_only : (table : Option State) → IsOutcome call table reported failed old new → (symbols : ℕ) → reported ≡ Size symbols → IsSomeAnd table (IsOversized symbols)
   size_only None o symbols e = none_of (Size symbols) e (λ f. absurd (cc)) o (λ s p h. absurd h.decided)
   size_only (Some t) o symbols e = cause_of t o (Size symbols) e (λ f. absurd (cc))
 

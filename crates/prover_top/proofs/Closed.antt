@@ -2,7 +2,7 @@
 -- off are covered.
 use Rattle.std.specs.Prelude.{fold}
 use Rattle.std.proofs.Common.{◌≡◌, ◌⊎◌, inl, inr, ℕ, zero, suc, ◌+◌, ◌-◌, ◌<◌, ◌≤◌, Bool, true, false, cond, not, ◌&&◌, ◌||◌, List, [], ◌∷◌, ◌++◌, length, Option, Some, None, option_map, refl, sym, ap, ◌∙◌, subst, arith}
-use Rattle.std.proofs.lemmas.Bool.{false≢true, eqb-true, and_parts}
+use Rattle.std.proofs.lemmas.Bool.{false≢true, eqb-true, and_parts, or_cases, or_right}
 use Rattle.std.proofs.lemmas.List.{map-append}
 use Rattle.spl_terms.specs.declared.clause.Part.{Part}
 use Rattle.spl_terms.specs.declared.clause.Clause.{Clause}
@@ -21,19 +21,12 @@ use Rattle.case_journal.specs.Facts.{listed, lists, kept, worked, split, chosen,
 use Rattle.case_journal.specs.Picking.{is_passive, passing, passive, pick_at, choices, weighed}
 use Rattle.case_journal.specs.Legal.{IsAsked, IsLegalJournal, IsPartner, IsPair, IsListedAs, IsListed}
 use Rattle.case_journal.specs.ListedLaws.{listed_within}
+use Rattle.case_journal.specs.FactLaws.{number_is}
 use Rattle.case_journal.specs.ListLaws.{get_more, get_left}
 use Rattle.case_journal.specs.PathLaws.{leaf_path}
 use Rattle.case_journal.specs.PlaceLaws.{stem_there}
 use Rattle.case_journal.specs.DependenceLaws.{chosen_listed}
-use Rattle.prover_top.specs.Endings.{IsClosed}
-
-or_cases : (a b : Bool) → (a || b) ≡ true → (a ≡ true) ⊎ (b ≡ true)
-or_cases true b e = inl refl
-or_cases false b e = inr e
-
-or_right : (a b : Bool) → b ≡ true → (a || b) ≡ true
-or_right true b e = refl
-or_right false b e = e
+use Rattle.prover_top.specs.Endings.{IsSaturated}
 
 -- ---- a pick of nothing
 
@@ -103,10 +96,6 @@ covered_by_more These Those c more (inl t) = inl t
 covered_by_more These Those c more (inr o) = inr (record { by = o.by; among = more o.by o.among; subsumes = o.subsumes })
 
 -- ---- legal journals
-
-number_is : (o : Option ℕ) (i : ℕ) → is_number o i ≡ true → o ≡ Some i
-number_is None i h = absurd (false≢true h)
-number_is (Some n) i h = ap Some (eqb-true n i h)
 
 module _ (s : Setting) where
   -- where m hung before the entry
@@ -223,7 +212,7 @@ module _ (s : Setting) where
       by_cases earlier (inr a) (inl b) = covered_by_now past e legal m j i j b.is b.chosen_there (inr (old_at i b.is a)) (inl refl) (inr refl)
       by_cases earlier (inr a) (inr b) = covered_more past e legal m i j (worked_kept past legal.1 (Before past e m) i before a) (worked_kept past legal.1 (Before past e m) j before b) (earlier a b)
 
-  pub closed : (past : List Entry) → IsLegalJournal s past → (m : ℕ) → m < nodes past → pick_at s past m ≡ None → IsClosed s past m
+  pub closed : (past : List Entry) → IsLegalJournal s past → (m : ℕ) → m < nodes past → pick_at s past m ≡ None → IsSaturated s past m
   closed past legal m there none = record {
     done = done s past m legal none;
     covered = λ first second p q. covered past legal m first second there p.worked q.worked;

@@ -13,35 +13,13 @@ use Rattle.proof_steps.specs.Checked.{IsContradiction}
 use Rattle.case_journal.specs.declared.event.Entry.{Entry}
 use Rattle.case_journal.specs.Journal.{Setting, ledger, lines_of, input_line, input_lines, last_line, steps}
 use Rattle.split_tree.specs.State.{State}
+use Rattle.case_journal.specs.FactLaws.{empty_is, contradiction_is}
 use Rattle.case_journal.specs.ListLaws.{get_more, get_right}
 use Rattle.case_journal.specs.Ending.{no_assumptions, is_contradiction, states_contradiction, ends_contradictory, has_empty}
 use Rattle.proof_extract.specs.Contradictions.{IsContradictory}
 use Rattle.prover_top.specs.Endings.{IsContradicted}
 
-and_parts : (a b : Bool) → (a && b) ≡ true → (a ≡ true) × (b ≡ true)
-and_parts true b e = (refl, e)
-and_parts false b e = absurd (false≢true e)
-
 -- ---- what is empty
-
-no_atoms_is : (atoms : List _) → no_atoms atoms ≡ true → atoms ≡ []
-no_atoms_is [] e = refl
-no_atoms_is (a ∷ atoms) e = absurd (false≢true e)
-
-no_assumptions_is : (deps : List Assumption) → no_assumptions deps ≡ true → deps ≡ []
-no_assumptions_is [] e = refl
-no_assumptions_is (a ∷ deps) e = absurd (false≢true e)
-
-empty_is : (c : Clause) → is_empty c ≡ true → IsEmpty c
-empty_is c e =
-    let last = and_parts (no_atoms c.constraint && no_atoms c.antecedent) (no_atoms c.succedent) e in
-    let first = and_parts (no_atoms c.constraint) (no_atoms c.antecedent) last.0 in
-    (no_atoms_is c.constraint first.0, no_atoms_is c.antecedent first.1, no_atoms_is c.succedent last.1)
-
-contradiction_is : (s : Statement) → is_contradiction s ≡ true → IsContradiction s
-contradiction_is s e =
-    let parts = and_parts (is_empty s.clause) (no_assumptions s.deps) e in
-    (empty_is s.clause parts.0, no_assumptions_is s.deps parts.1)
 
 no_atoms_in_order : (a b d : List Atom) → a ≡ [] → b ≡ [] → d ≡ [] → IsEmpty (in_order (record { constraint = a; antecedent = b; succedent = d }))
 no_atoms_in_order a b d e f g =

@@ -17,7 +17,7 @@ use Rattle.case_journal.specs.Legal.{IsLegal, IsLegalJournal}
 use Rattle.case_journal.specs.PlaceLaws.{claimed_within}
 use Rattle.prover_top.specs.declared.answers.Answer.{Answer}
 use Rattle.prover_top.specs.declared.answers.Answer.TheVariants as answers
-use Rattle.prover_top.specs.Endings.{EndsBy, IsContradicted, kept_among, kept_count, IsComplete, IsSpent, IsFull, IsLarge}
+use Rattle.prover_top.specs.Endings.{EndsBy, IsContradicted, kept_among, kept_count, IsComplete, IsSpent, IsFull, IsOversized}
 use Rattle.prover_top.specs.Outcomes.{answer_for, answer_of}
 use Rattle.prover_top.proofs.Closed.{closed}
 
@@ -218,7 +218,7 @@ IsCaused t answers.ProofFound = IsContradicted t
 IsCaused t (answers.Completion node kept put_off) = IsComplete node kept put_off t
 IsCaused t (answers.Rounds count) = IsSpent count t
 IsCaused t (answers.Steps limit) = IsFull limit t
-IsCaused t (answers.Size symbols) = IsLarge symbols t
+IsCaused t (answers.Size symbols) = IsOversized symbols t
 IsCaused t _ = ⊤
 
 module _ (t : State) (legal : IsLegalJournal t.setting t.past) where
@@ -255,7 +255,7 @@ module _ (t : State) (legal : IsLegalJournal t.setting t.past) where
       let w = ending_of f.event ends.Steps f.why in
       record { node = w.0; chain = w.1; ends = ends_by t ends.Steps f (Full w.0 w.1) w.2; limit_is = refl }
 
-  large : (symbols : ℕ) → Ended t.setting t.past (ends.Size symbols) → IsLarge symbols t
+  large : (symbols : ℕ) → Ended t.setting t.past (ends.Size symbols) → IsOversized symbols t
   large symbols f =
       let w = ending_of f.event (ends.Size symbols) f.why in
       record { node = w.0; partner = w.1; ends = ends_by t (ends.Size symbols) f (Big w.0 w.1 symbols) w.2 }

@@ -2,39 +2,30 @@
 use Rattle.std.proofs.Common.{◌≡◌, ℕ, ◌<◌, ◌≤◌, ◌^◌, Bool, true, false, ◌&&◌, nat_le, nat_lt, List, [], ◌∷◌, length, map, take, drop, get_or, ◌-◌, subst, Option, Some, None, refl, sym, ap, ◌∙◌, arith}
 use Rattle.std.specs.Prelude.{SomeIff, option_and_then}
 use Rattle.std.specs.List.{list_all}
-use Rattle.std.specs.Char.{digit_value}
+use Rattle.std.specs.Char.{digit_value, is_digit}
 use Rattle.std.specs.String.{string_bytes}
 use Rattle.std.specs.declared.string.String.{String}
 use Rattle.std.specs.declared.alloc.Global.{Global}
 use Rattle.std.proofs.Math.Nat.{pow-le-pow_right}
+use Rattle.std.proofs.Math.Seq.{take-length}
 use Rattle.std.proofs.lemmas.Int.Digits.{digits_value-lt}
-use Rattle.std.proofs.lemmas.Bool.{false≢true}
+use Rattle.std.proofs.lemmas.Bool.{and_from, and_parts, lt-ltb, ltb-true}
 use Rattle.std.specs.Str.Parse.{AllDigits, IsNumeral, digits_value}
 use Rattle.prover_top.specs.declared.words.Given.{Given}
-use Rattle.prover_top.specs.Words.{is_digit, is_short, is_number, number_of, with_option, options_of}
+use Rattle.prover_top.specs.Words.{is_short, is_numeral, number_of, with_option, options_of}
 
 pub short_value : (ds : List ℕ) → AllDigits 10 ds → length ds ≤ 7 → digits_value 10 ds < 4294967296
 short_value ds h k =
     let most : 10 ^ length ds ≤ 10000000 = pow-le-pow_right (omega arith) k in
     omega (arith, digits_value-lt 10 ds h, most)
 
-and_parts : (a b : Bool) → (a && b) ≡ true → (a ≡ true) × (b ≡ true)
-and_parts true b e = (refl, e)
-and_parts false b e = absurd (false≢true e)
-
-lt_true : (n m : ℕ) → n < m → nat_lt n m ≡ true
-lt_true n m h = grind arith
-
-true_lt : (n m : ℕ) → nat_lt n m ≡ true → n < m
-true_lt n m e = grind arith
-
-digits_true : (ds : List ℕ) → AllDigits 10 ds → list_all is_digit ds ≡ true
+digits_true : (ds : List ℕ) → AllDigits 10 ds → list_all (λ d. is_digit d 10) ds ≡ true
 digits_true [] h = refl
-digits_true (d ∷ ds) h = rw (lt_true (digit_value d) 10 h.0, digits_true ds h.1)
+digits_true (d ∷ ds) h = and_from _ _ (lt-ltb (digit_value d) 10 h.0) (digits_true ds h.1)
 
-true_digits : (ds : List ℕ) → list_all is_digit ds ≡ true → AllDigits 10 ds
+true_digits : (ds : List ℕ) → list_all (λ d. is_digit d 10) ds ≡ true → AllDigits 10 ds
 true_digits [] e = tt
-true_digits (d ∷ ds) e = let p = and_parts _ _ e in (true_lt (digit_value d) 10 p.0, true_digits ds p.1)
+true_digits (d ∷ ds) e = let p = and_parts _ _ e in (ltb-true (digit_value d) 10 p.0, true_digits ds p.1)
 
 short_true : (n : ℕ) → 0 < n → n ≤ 7 → is_short n ≡ true
 short_true n h k = grind arith
@@ -48,11 +39,11 @@ true_short n e =
 
 pub number_from : (word : List ℕ) (r : Option ℕ) → SomeIff r (IsNumeral 10 word × (length word ≤ 7)) (digits_value 10 word) → r ≡ number_of word
 number_from word (Some x) h =
-    let fits : is_number word ≡ true = rw (short_true (length word) h.0.0.0 h.0.1, digits_true word h.0.0.1) in
+    let fits : is_numeral word ≡ true = rw (short_true (length word) h.0.0.0 h.0.1, digits_true word h.0.0.1) in
     rw fits (ap Some h.1)
-number_from word None h = by_test (is_number word) refl
+number_from word None h = by_test (is_numeral word) refl
   where
-    by_test : (b : Bool) → is_number word ≡ b → None ≡ number_of word
+    by_test : (b : Bool) → is_numeral word ≡ b → None ≡ number_of word
     by_test true e =
         let p = and_parts _ _ e in
         let q = true_short (length word) p.0 in
@@ -63,10 +54,6 @@ number_from word None h = by_test (is_number word) refl
 options_step : (given next : Given) (option value : List ℕ) (more : List (List ℕ)) (r : Option Given) → with_option given option value ≡ Some next → r ≡ options_of next more → r ≡ options_of given (option ∷ value ∷ more)
 options_step given next option value more r e h = h ∙ sym (ap (option_and_then (λ n. options_of n more)) e)
 
-take_all : {A : Type 0} (xs : List A) → take (length xs) xs ≡ xs
-take_all [] = refl
-take_all (x ∷ xs) = ap (λ l. x ∷ l) (take_all xs)
-
 -- what is behind the first element
 abbrev pub behind : {A : Type 0} → List A → List A
 behind xs = take (length xs - 1) (drop 1 xs)
@@ -74,7 +61,7 @@ behind xs = take (length xs - 1) (drop 1 xs)
 behind_is : {A : Type 0} (x : A) (xs : List A) → behind (x ∷ xs) ≡ xs
 behind_is x xs =
     let e : length (x ∷ xs) - 1 ≡ length xs = omega arith in
-    subst (λ n. take n xs ≡ xs) (sym e) (take_all xs)
+    subst (λ n. take n xs ≡ xs) (sym e) (take-length xs)
 
 -- the first two words are an option and its value
 pub options_at : (given next : Given) (words : List (String Global)) (o v : String Global) (option value : List ℕ) (r : Option Given) →

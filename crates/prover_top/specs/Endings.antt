@@ -52,14 +52,14 @@ kept_count s past m = kept_among s past m (steps s past)
 
 -- each clause kept at m was worked off or split there, and each inference of two that were worked off, or of one with
 -- itself, is covered by those listed there
-pub record IsClosed (s : Setting) (past : List Entry) (m : ℕ) : Type 0 where
+pub record IsSaturated (s : Setting) (past : List Entry) (m : ℕ) : Type 0 where
   pub done : (n : ℕ) → kept s past m n ≡ true → (worked past m n || split past m n) ≡ true
   pub covered : (first second : ℕ) → IsPartner s past m first → IsPartner s past m second → AreCoveredBy (IsListed s past m) (ledger s past) first second
 
 -- the case at the node is complete, with so many clauses kept there, of which none is put off
 pub record IsComplete (node kept put_off : ℕ) (t : State) : Type 0 where
   pub ends : EndsBy t (Saturated node)
-  pub closed : IsClosed t.setting ends.before node
+  pub closed : IsSaturated t.setting ends.before node
   pub kept_there : kept ≡ kept_count t.setting ends.before node
   pub none_put_off : put_off ≡ 0
 
@@ -78,7 +78,7 @@ pub record IsFull (limit : ℕ) (t : State) : Type 0 where
   pub limit_is : limit ≡ t.setting.limits.steps
 
 -- an inference has more than 4,096 symbols, so many up to 1,000,000
-pub record IsLarge (symbols : ℕ) (t : State) : Type 0 where
+pub record IsOversized (symbols : ℕ) (t : State) : Type 0 where
   pub node : ℕ
   pub partner : ℕ
   pub ends : EndsBy t (Big node partner symbols)

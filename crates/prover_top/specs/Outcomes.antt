@@ -118,8 +118,8 @@ pub record IsTried (call : Call) (signature : List Declared) (table : Option Sta
   pub input_is : IsInput call.before call.after signature input
   pub decided : IsDecided limits input table proof answer
 
--- the words fit
-pub record Fits (call : Call) : Type 0 where
+-- the words are understood
+pub record IsUnderstood (call : Call) : Type 0 where
   pub limits : Limits
   pub fits : limits_of call.words ≡ Some limits
 
@@ -131,9 +131,9 @@ IsCause call signature table proof (answers.Rounds count) = IsTried call signatu
 IsCause call signature table proof (answers.Steps limit) = IsTried call signature table proof (answers.Steps limit)
 IsCause call signature table proof (answers.Size symbols) = IsTried call signature table proof (answers.Size symbols)
 IsCause call signature table proof answers.Words = (limits_of call.words ≡ None) × (table ≡ None)
-IsCause call signature table proof (answers.Input fault) = Fits call × IsRefused call.before call.after fault × (table ≡ None)
-IsCause call signature table proof answers.TooLong = Fits call × CamePast call.before call.after most_bytes × (table ≡ None)
-IsCause call signature table proof answers.ReadFault = Fits call × Rose call.faults_before call.faults_after × (table ≡ None)
+IsCause call signature table proof (answers.Input fault) = IsUnderstood call × IsRefused call.before call.after fault × (table ≡ None)
+IsCause call signature table proof answers.TooLong = IsUnderstood call × CamePast call.before call.after most_bytes × (table ≡ None)
+IsCause call signature table proof answers.ReadFault = IsUnderstood call × Rose call.faults_before call.faults_after × (table ≡ None)
 IsCause call signature table proof answers.Memory = (table ≡ None) ⊎ IsTried call signature table proof answers.Memory
 
 -- ---- before proving and after it

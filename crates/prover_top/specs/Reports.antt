@@ -40,8 +40,8 @@ IsRead limits bytes signature start = IsSolved limits bytes signature start ⊎ 
 -- ---- the whole
 
 -- the text of the answer was written; where there was no memory to build it, the text of want of memory
-abbrev pub IsWritten : List Declared → List Line → Answer → Answer → Bool → Option (List ℕ) → Option (List ℕ) → Type 0
-IsWritten signature proof answer reported failed old new =
+abbrev pub IsAnswerWritten : List Declared → List Line → Answer → Answer → Bool → Option (List ℕ) → Option (List ℕ) → Type 0
+IsAnswerWritten signature proof answer reported failed old new =
     IsDelivered (answer_text signature proof answer) answer reported failed old new
     ⊎ IsDelivered (codes "Out of memory.\n") answers.Memory reported failed old new
 
@@ -50,7 +50,7 @@ pub record IsFinished (start : Start) (signature : List Declared) (table : Optio
   pub proof : List Line
   pub answer : Answer
   pub ended : IsEnded start table proof answer
-  pub written : IsWritten signature proof answer reported failed old new
+  pub written : IsAnswerWritten signature proof answer reported failed old new
 
 -- an answer, its cause, whether a failed read was counted for it, and what was written for it; where memory ran out, the
 -- text of that may stand for it
@@ -60,7 +60,7 @@ pub record IsOutcome (call : Call) (table : Option State) (reported : Answer) (f
   pub answer : Answer
   pub cause : IsCause call signature table proof answer
   pub counted : call.faults_after ≡ count_after (is_fault answer) call.faults_before
-  pub delivered : IsWritten signature proof answer reported failed old new
+  pub delivered : IsAnswerWritten signature proof answer reported failed old new
 
 -- ---- a table
 

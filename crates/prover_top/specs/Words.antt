@@ -3,24 +3,20 @@ use Rattle.std.specs.Prelude.{ℕ, Bool, true, false, not, ◌&&◌, ◌==◌, n
 use Rattle.std.specs.List.{list_all}
 use Rattle.std.specs.Str.{bytes_eq}
 use Rattle.std.specs.Str.Parse.{digits_value}
-use Rattle.std.specs.Char.{digit_value}
+use Rattle.std.specs.Char.{is_digit}
 use Rattle.case_journal.specs.declared.event.Limits.{Limits}
 use Rattle.prover_top.specs.declared.words.Given.{Given}
-
--- an ASCII digit: its value as a digit is below ten, where letters have the values from ten on
-abbrev pub is_digit : ℕ → Bool
-is_digit byte = nat_lt (digit_value byte) 10
 
 abbrev pub is_short : ℕ → Bool
 is_short count = nat_le 1 count && nat_le count 7
 
 -- one to seven ASCII digits
-abbrev pub is_number : List ℕ → Bool
-is_number word = is_short (length word) && list_all is_digit word
+abbrev pub is_numeral : List ℕ → Bool
+is_numeral word = is_short (length word) && list_all (λ byte. is_digit byte 10) word
 
 -- the value of a word of one to seven ASCII digits
 abbrev pub number_of : List ℕ → Option ℕ
-number_of word = if is_number word then Some (digits_value 10 word) else None
+number_of word = if is_numeral word then Some (digits_value 10 word) else None
 
 abbrev pub none_given : Given
 none_given = record { rounds = None; steps = None; splits = None; workers = false }

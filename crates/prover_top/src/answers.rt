@@ -1,3 +1,4 @@
+//! What the program answers, and the exit status of each answer.
 ghost use Rattle.std.specs.Prelude.{◌≡◌};
 ghost use Rattle.prover_top.specs.Answers.{status_of};
 

@@ -3,7 +3,7 @@ ghost use Rattle.std.specs.Prelude.{◌≡◌, ◌≢◌, ◌<◌, ◌^◌, ◌+
 ghost use Rattle.outside_io.specs.Outside.{count_after};
 ghost use Rattle.prover_top.specs.Answers.{found_text, completion_text, rounds_text, steps_text, size_text, kind_text, input_text, answer_text, reported_status};
 ghost use Rattle.prover_top.specs.Deliveries.{IsDelivered};
-ghost use Rattle.prover_top.specs.Reports.{IsWritten};
+ghost use Rattle.prover_top.specs.Reports.{IsAnswerWritten};
 
 use crate::answers::Answer;
 use dfg_reader::{FaultKind, ReadFault};
@@ -195,7 +195,7 @@ pub fn deliver<K: Sink>(
     answer: Answer,
 ) -> Delivery
     requires { length proof.now < 2 ^ 32 }
-    ensures written { IsWritten signature.now proof.now answer
+    ensures written { IsAnswerWritten signature.now proof.now answer
         result.reported result.failed (K.written sink.old) (K.written sink.new) }
     ensures counted { K.faults sink.new ≡ count_after result.failed (K.faults sink.old) }
 {

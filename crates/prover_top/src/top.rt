@@ -8,9 +8,9 @@ ghost use Rattle.prover_top.specs.Answers.{reported_status};
 ghost use Rattle.dfg_reader.specs.declared.problem.Problem.{Problem};
 ghost use Rattle.dfg_reader.specs.Problems.{problem};
 ghost use Rattle.dfg_reader.specs.GroundClauses.{clauses, HasLimits};
-ghost use Rattle.prover_top.specs.Endings.{IsContradicted, IsComplete, IsSpent, IsFull, IsLarge};
+ghost use Rattle.prover_top.specs.Endings.{IsContradicted, IsComplete, IsSpent, IsFull, IsOversized};
 ghost use Rattle.prover_top.specs.Outcomes.{call_of, IsRefused, IsFresh, IsStarted, IsEnded, answer_of, most_bytes};
-ghost use Rattle.prover_top.specs.Reports.{HasTable, HasProof, IsRead, IsWritten, IsFinished, IsOutcome, IsUnlessMemory, IsOfProving, IsTold};
+ghost use Rattle.prover_top.specs.Reports.{HasTable, HasProof, IsRead, IsAnswerWritten, IsFinished, IsOutcome, IsUnlessMemory, IsOfProving, IsTold};
 
 use crate::answers::Answer;
 use crate::delivering::deliver;
@@ -127,7 +127,7 @@ fn announce<K: Sink>(alloc: Global, sink: &mut K, signature: &Signature, decided
     requires short { length decided.proof < 2 ^ 32 }
     ensures status { result.status ≡ reported_status result.write_failed result.answer }
     ensures table { result.table ≡ decided.table }
-    ensures written { IsWritten signature.now decided.proof decided.answer
+    ensures written { IsAnswerWritten signature.now decided.proof decided.answer
         result.answer result.write_failed (K.written sink.old) (K.written sink.new) }
     ensures counted { K.faults sink.new ≡ count_after result.write_failed (K.faults sink.old) }
 {
@@ -206,7 +206,7 @@ pub fn run_alone<S: Source, K: Sink>(
         → IsSomeAnd result.table (IsComplete node kept put_off) }
     ensures rounds { (count : ℕ) → result.answer ≡ Answer.Rounds count → IsSomeAnd result.table (IsSpent count) }
     ensures steps { (limit : ℕ) → result.answer ≡ Answer.Steps limit → IsSomeAnd result.table (IsFull limit) }
-    ensures size { (symbols : ℕ) → result.answer ≡ Answer.Size symbols → IsSomeAnd result.table (IsLarge symbols) }
+    ensures size { (symbols : ℕ) → result.answer ≡ Answer.Size symbols → IsSomeAnd result.table (IsOversized symbols) }
 
     // Refusals.
     ensures words { result.answer ≡ Answer.Words → limits_of (map string_bytes words.now) ≡ None }

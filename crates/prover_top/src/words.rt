@@ -1,3 +1,4 @@
+//! The words of a command line, and the limits that they give.
 ghost use Rattle.std.specs.Prelude.{◌≡◌, ◌≤◌, map, length, SomeIff};
 ghost use Rattle.std.specs.Str.Parse.{IsNumeral, digits_value};
 ghost use Rattle.std.specs.String.{string_bytes};
