@@ -2,6 +2,7 @@
 use Rattle.std.proofs.Common.{take, drop, length, ◌+◌, ◌≤◌, ◌≡◌, ℕ, Bool, true, false, not, ◌||◌, List, [], ◌∷◌, ◌++◌, map, refl, sym, ap, ◌∙◌, arith, append_assoc, length-drop, length-take-le, drop-drop}
 use Rattle.std.specs.List.{list_any}
 use Rattle.std.proofs.lemmas.List.{take-map, drop-map}
+use Rattle.spl_terms.specs.BoolLaws.{or-exchange}
 use Rattle.spl_terms.specs.declared.term.Term.{Term}
 use Rattle.spl_terms.specs.declared.atom.Atom.{Atom}
 use Rattle.spl_terms.specs.declared.clause.Clause.{Clause}
@@ -11,7 +12,7 @@ use Rattle.spl_truth.specs.InstanceLaws.{at_each}
 use Rattle.clause_parts.specs.Parts.{marked, component, part_by, variable_lists, constraint_marks, antecedent_marks, succedent_marks}
 use Rattle.clause_parts.specs.Marking.{marked_variables}
 use Rattle.clause_parts.specs.MarkLaws.{length-atoms}
-use Rattle.proof_steps.proofs.Resolution.{negative, or_four}
+use Rattle.proof_steps.proofs.Resolution.{negative}
 use Rattle.clause_parts.specs.JointLaws.{combined, joint_left, joint_right, marked-append}
 
 -- ---- the marked atoms, part by part
@@ -127,5 +128,5 @@ module _ (c : Clause) (m : List Bool) (size : length m ≡ length (variable_list
     truth_parted =
         (λ i. (constraint_parted i || antecedent_parted i) || succedent_parted i)
         ∙ ap (λ n. n || (list_any b left_part.succedent || list_any b right_part.succedent))
-        (or_four (list_any (λ a. not (b a)) left_part.constraint) (list_any (λ a. not (b a)) right_part.constraint) (list_any (λ a. not (b a)) left_part.antecedent) (list_any (λ a. not (b a)) right_part.antecedent))
-        ∙ or_four (negative b left_part) (negative b right_part) (list_any b left_part.succedent) (list_any b right_part.succedent)
+        (or-exchange (list_any (λ a. not (b a)) left_part.constraint) (list_any (λ a. not (b a)) right_part.constraint) (list_any (λ a. not (b a)) left_part.antecedent) (list_any (λ a. not (b a)) right_part.antecedent))
+        ∙ or-exchange (negative b left_part) (negative b right_part) (list_any b left_part.succedent) (list_any b right_part.succedent)

@@ -6,6 +6,7 @@ use Rattle.std.proofs.lemmas.List.{reverse-append, length-reverse}
 use Rattle.std.specs.List.{slice_get, list_any}
 use Rattle.spl_truth.specs.declared.picking.Candidate.{Candidate}
 use Rattle.proof_steps.specs.declared.step.Line.{Line}
+use Rattle.spl_terms.specs.BoolLaws.{or-exchange}
 use Rattle.case_journal.specs.declared.event.Entry.{Entry}
 use Rattle.case_journal.specs.declared.event.Event.{Event}
 use Rattle.case_journal.specs.declared.event.Event.TheVariants.{Split, Activate}
@@ -106,12 +107,6 @@ new_hit (Activate node) at rs on i = activated_hit node i rs on (at node)
 new_hit (Split node lines put_off) at rs on i = swap_two (on node) (eqb (subject lines) i)
 new_hit _ at rs on i = refl
 
-shuffle : (a w s p : Bool) → ((a || w) || (s || p)) ≡ ((a || s) || (w || p))
-shuffle true w s p = refl
-shuffle false true true p = refl
-shuffle false true false p = refl
-shuffle false false s p = refl
-
 -- what was activated or split at the nodes of a path
 pub retired_any : (s : Setting) (past : List Entry) → IsLegalJournal s past → (m i : ℕ) → m < nodes past → (worked past m i || split past m i) ≡ list_any (hits (on_path past m) i) (retired past)
 unfolding retired
@@ -123,7 +118,7 @@ retired_any s (e ∷ past) legal m i there =
     let o = retired_by e.event (chosen past) rs in
     let p = hits (on_path (e ∷ past) m) i in
     let more = retired_any s past legal.1 u i (stem_there s past legal.1 e.by e.event m legal.0.asked there) in
-    shuffle (activates e.event (chosen past) on i) (worked past u i) (splits_clause e.event on i) (split past u i)
+    or-exchange (activates e.event (chosen past) on i) (worked past u i) (splits_clause e.event on i) (split past u i)
     ∙ (ap (λ b. (activates e.event (chosen past) on i || splits_clause e.event on i) || b) more
     ∙ (ap (λ b. b || list_any (hits on i) rs) (new_hit e.event (chosen past) rs on i)
     ∙ sym (newest_any p rs o
