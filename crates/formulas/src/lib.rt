@@ -1,4 +1,5 @@
-//! Formulas of first-order logic with equality.
+//! Formulas of first-order logic with equality: blocks of quantified variables behind a plain tree, negation normal form,
+//! and how many clauses a formula gives.
 #![tactic(auto)]
 
 mod counts;
