@@ -70,6 +70,7 @@ impl Model for Formula {
 }
 
 /// A formula's outermost case, with its parts lent.
+#[derive(Clone, Copy)]
 pub enum Case<'a> {
     /// `true`.
     True,
