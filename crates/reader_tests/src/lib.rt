@@ -1,11 +1,15 @@
-//! Tests of what comes in and goes out: streams, tokens, problems and the text of a proof. That calls succeed where there
-//! is memory, worked examples, and limits.
+//! Tests of what comes in and goes out: streams, tokens, problems, formulas and the text of a proof. That calls succeed
+//! where there is memory, worked examples, and limits.
 #![tactic(auto)]
 
 #[cfg(test)]
 mod faults;
 #[cfg(test)]
+mod formula_trees;
+#[cfg(test)]
 mod limits;
+#[cfg(test)]
+mod literals;
 #[cfg(test)]
 mod makers;
 #[cfg(test)]

@@ -1,0 +1,50 @@
+-- Literals that come one by one make the clause of their list, and it never shrinks.
+use Rattle.std.proofs.Common.{◌≡◌, inl, inr, ◌≤◌, Bool, true, false, not, ◌&&◌, if◌then◌else◌, List, [], ◌∷◌, map, fold, arith, refl, sym, ap, ◌∙◌}
+use Rattle.std.specs.List.{filter, list_any}
+use Rattle.std.proofs.lemmas.Bool.{cases_Bool}
+use Rattle.spl_terms.specs.declared.atom.Atom.{Atom}
+use Rattle.spl_terms.specs.declared.clause.Part.{Part}
+use Rattle.spl_terms.specs.declared.clause.Part.TheVariants.{Constraint, Antecedent, Succedent}
+use Rattle.spl_terms.specs.declared.clause.Clause.{Clause}
+use Rattle.spl_terms.specs.Clauses.{is_of_sort, is_same, added, part_of, with_atom, clause_symbols, renumbered}
+use Rattle.spl_terms.specs.SizeLaws.{with_atom-repeated, with_atom-new}
+use Rattle.normal_form.specs.Clausal.{Literal, stands_right, stands_left, stands_in_constraint, atoms_where, clause_of}
+use Rattle.normal_form.specs.Gathering.{part_for, with_literal, no_literals, gathered}
+
+-- the atoms of a part, with those of the literals added
+abbrev more : (Literal → Bool) → List Atom → List Literal → List Atom
+more test before ls = fold added before (atoms_where test ls)
+
+abbrev by_parts : Clause → List Literal → Clause
+by_parts c ls = record { constraint = more stands_in_constraint c.constraint ls; antecedent = more stands_left c.antecedent ls; succedent = more stands_right c.succedent ls }
+
+gathered_parts : (c : Clause) (ls : List Literal) → gathered c ls ≡ by_parts c ls
+gathered_parts c [] = refl
+gathered_parts c (l ∷ ls) = gathered_parts (with_literal c l) ls ∙ one l.sign (is_of_sort l.atom)
+  where
+    one : (sign sort : Bool) → by_parts (with_atom c (if sign then Succedent else (if sort then Constraint else Antecedent)) l.atom) ls
+        ≡ record {
+          constraint = fold added c.constraint (map (λ (k : Literal). k.atom) (if not sign && sort then l ∷ filter stands_in_constraint ls else filter stands_in_constraint ls));
+          antecedent = fold added c.antecedent (map (λ (k : Literal). k.atom) (if not sign && not sort then l ∷ filter stands_left ls else filter stands_left ls));
+          succedent = fold added c.succedent (map (λ (k : Literal). k.atom) (if sign then l ∷ filter stands_right ls else filter stands_right ls));
+        }
+    one true sort = refl
+    one false true = refl
+    one false false = refl
+
+-- once the variables are numbered, it is the clause of the list
+pub clause-gathered : (ls : List Literal) → clause_of ls ≡ renumbered (gathered no_literals ls)
+clause-gathered ls = ap renumbered (sym (gathered_parts no_literals ls))
+
+-- ---- sizes
+
+atom_grows : (c : Clause) (part : Part) (a : Atom) → clause_symbols c ≤ clause_symbols (with_atom c part a)
+atom_grows c part a = elim (cases_Bool (list_any (λ b. is_same a b) (part_of c part))) [
+  | inl e ↦ (let h = ap clause_symbols (with_atom-repeated c part a e) in omega arith)
+  | inr e ↦ (let h = with_atom-new c part a e in omega arith)
+]
+
+-- a clause that is too large stays so
+pub gathered_grows : (c : Clause) (ls : List Literal) → clause_symbols c ≤ clause_symbols (gathered c ls)
+gathered_grows c [] = omega arith
+gathered_grows c (l ∷ ls) = let h = gathered_grows (with_literal c l) ls in let k = atom_grows c (part_for l.sign l.atom) l.atom in omega arith

@@ -1,0 +1,7 @@
+-- Sets of laws about terms, for the tactics.
+use Rattle.std.proofs.lemmas.Grind.{fold-append}
+use Rattle.spl_terms.specs.TermLaws.{term_variables-Var, term_variables-App, replace-Var, replace-App}
+
+pub ruleset variable_laws = (term_variables-Var, term_variables-App, fold-append)
+
+pub ruleset replace_laws = (replace-Var, replace-App)
