@@ -27,7 +27,7 @@ use Rattle.case_journal.specs.ListedLaws.{listed_within}
 use Rattle.case_journal.specs.LeafLaws.{claimer_within}
 use Rattle.case_journal.specs.DependenceLaws.{numbered_old, numbered_new}
 use Rattle.journal_laws.specs.Frame.{NoneBy, StillHolds}
-use Rattle.journal_laws.specs.Batches.{IsRoundLine, IsBatch, publication, newest_first, IsUnderWay, with_lines, IsStated, IsReady, CanGoOn}
+use Rattle.journal_laws.specs.Batches.{IsRoundLine, IsBatch, publication, newest_first, IsUnderWay, with_lines, IsStated, CanGoOn}
 use Rattle.journal_laws.proofs.Holders.{live_before}
 use Rattle.case_journal.specs.DeathLaws.{dead_below, owner_on}
 use Rattle.journal_laws.proofs.Frame.{own_by, quiet_keeps, some_of, one_of, still_self, still_more, others_leave_the_leaf}
@@ -281,16 +281,10 @@ ready_here s past w m lines batch = record {
   still = subst (λ ls. StillHolds s past past w m (newest_first ls [])) (sym (take_none lines)) (still_self s past w m batch.holds);
 }
 
-pub batch_ready : (s : Setting) (past : List Entry) (w m : ℕ) (lines : List Line) → IsBatch s past w m lines → IsReady s past w m lines
-batch_ready s past w m lines batch = (past, ready_here s past w m lines batch)
-
 pub under_way_after : (s : Setting) (start past later : List Entry) (w m : ℕ) (lines : List Line) → IsLegalJournal s (later ++ past) → NoneBy w later → IsLive s (later ++ past) m → IsUnderWay s start past w m lines 0 → IsUnderWay s start (later ++ past) w m lines 0
 under_way_after s start past later w m lines legal none live h =
     let f = others_leave_the_leaf s past later w m legal h.still.holds none live in
     record { batch = h.batch; still = still_more s start past (later ++ past) w m (newest_first (take 0 lines) []) [] h.still f }
-
-pub ready_after : (s : Setting) (past later : List Entry) (w m : ℕ) (lines : List Line) → IsLegalJournal s (later ++ past) → NoneBy w later → IsLive s (later ++ past) m → IsReady s past w m lines → IsReady s (later ++ past) w m lines
-ready_after s past later w m lines legal none live (start, h) = (start, under_way_after s start past later w m lines legal none live h)
 
 pub batch_is_legal : (s : Setting) (past later : List Entry) (w m : ℕ) (lines : List Line) → IsBatch s past w m lines → IsLegalJournal s (later ++ past) → NoneBy w later → IsLive s (later ++ past) m → first_end (later ++ past) ≡ None
     → (k : ℕ) (l : Line) → slice_get lines k ≡ Some l → counted (later ++ past) + k ≤ s.limits.steps

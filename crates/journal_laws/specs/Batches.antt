@@ -42,10 +42,6 @@ pub record IsUnderWay (s : Setting) (start past : List Entry) (w m : ℕ) (lines
   pub batch : IsBatch s start w m lines
   pub still : StillHolds s start past w m (newest_first (take k lines) [])
 
--- w has made the lines over some earlier journal, and has published none of them yet
-abbrev pub IsReady : Setting → List Entry → ℕ → ℕ → List Line → Type 0
-IsReady s past w m lines = (start : List Entry) × IsUnderWay s start past w m lines 0
-
 -- w may publish the line next; or, where as many counted steps were published as may be, end the journal by a Full with it
 pub record CanGoOn (s : Setting) (past : List Entry) (w m : ℕ) (l : Line) : Type 0 where
   pub publishes : counted past < s.limits.steps → IsLegal s past w (Publish (owner past l.stated.deps m) (l ∷ []) false)

@@ -21,7 +21,7 @@ ghost use Rattle.proof_steps.specs.Checked.{IsConclusion, AreConclusions, stated
 ghost use Rattle.case_journal.specs.Paths.{on_path};
 ghost use Rattle.journal_laws.specs.PathEvents.{events_on, SamePath};
 ghost use Rattle.journal_laws.specs.Shifts.{shifted, shifted_line, is_split_rule};
-ghost use Rattle.journal_laws.specs.Batches.{IsBatch, IsReady, publication, newest_first, with_lines, CanGoOn, IsWorkedOff};
+ghost use Rattle.journal_laws.specs.Batches.{IsBatch, IsUnderWay, publication, newest_first, with_lines, CanGoOn, IsWorkedOff};
 
 use spl_terms::order_stays;
 
@@ -80,12 +80,13 @@ pub fn batch_is_legal()
         × CanGoOn s (with_lines past w m (take k lines) (later ++ past)) w m l }
 {}
 
-/// A batch that is ready to be published stays so while others go on.
+/// A batch that was made is ready to be published, and stays so while others go on.
 pub fn ready_stays()
     ensures made { (s : Setting) (past : List Entry) (w m : ℕ) (lines : List Line)
-        → IsBatch s past w m lines → IsReady s past w m lines }
-    ensures stays { (s : Setting) (past later : List Entry) (w m : ℕ) (lines : List Line) → IsLegalJournal s (later ++ past)
-        → NoneBy w later → IsLive s (later ++ past) m → IsReady s past w m lines → IsReady s (later ++ past) w m lines }
+        → IsBatch s past w m lines → IsUnderWay s past past w m lines 0 }
+    ensures stays { (s : Setting) (start past later : List Entry) (w m : ℕ) (lines : List Line)
+        → IsLegalJournal s (later ++ past) → NoneBy w later → IsLive s (later ++ past) m
+        → IsUnderWay s start past w m lines 0 → IsUnderWay s start (later ++ past) w m lines 0 }
 {}
 
 /// Once the lines of the round are published, what finishes it may be appended: the activation where all inferences were

@@ -1,0 +1,35 @@
+-- How what was computed in a round is to be appended to the journal.
+use Rattle.std.specs.Prelude.{◌≡◌, ℕ, true, List, Some, IsSomeAnd}
+use Rattle.spl_terms.specs.Clauses.{is_empty}
+use Rattle.clause_parts.specs.Parts.{Parted, parts_of}
+use Rattle.proof_steps.specs.declared.step.Line.{Line}
+use Rattle.spl_terms.specs.Lists.{numbered}
+use Rattle.case_journal.specs.declared.event.Entry.{Entry}
+use Rattle.case_journal.specs.Journal.{Setting, ledger, last_line}
+use Rattle.case_journal.specs.Facts.{chosen}
+use Rattle.case_journal.specs.Legal.{IsLegalBig, IsLegalJournal}
+use Rattle.journal_laws.specs.Batches.{IsUnderWay, IsWorkedOff}
+use Rattle.case_rounds.specs.declared.round.Finish.{Finish}
+use Rattle.case_rounds.specs.declared.round.Finish.TheVariants as finishes
+
+-- the clause that is chosen at m has these parts
+pub record IsPartedAt (s : Setting) (past : List Entry) (m : ℕ) (parts : Parted) : Type 0 where
+  pub number : ℕ
+  pub is : chosen past m ≡ Some number
+  pub line : Line
+  pub found : numbered (ledger s past) number ≡ Some line
+  pub parted : parts_of line.stated.clause ≡ Some parts
+
+-- the event by which the round is finished may be appended once the lines are published: what it asks of the journal for which the view stands
+abbrev pub IsFinishAt : Setting → List Entry → ℕ → ℕ → List Line → Finish → Type 0
+IsFinishAt s past w m lines finishes.Closed = IsSomeAnd (last_line lines) (λ l. is_empty l.stated.clause ≡ true)
+IsFinishAt s past w m lines (finishes.Big partner symbols) = IsLegalBig s past w m partner symbols
+IsFinishAt s past w m lines (finishes.Split parts) = IsPartedAt s past m parts
+IsFinishAt s past w m lines finishes.Activate = IsWorkedOff s past w m lines
+
+-- a batch was made over an earlier journal of the worker's case, and none of it has been appended
+pub record CanAppend (s : Setting) (past : List Entry) (w m : ℕ) (lines : List Line) (finish : Finish) : Type 0 where
+  pub start : List Entry
+  pub legal : IsLegalJournal s start
+  pub way : IsUnderWay s start past w m lines 0
+  pub ends : IsFinishAt s start w m lines finish

@@ -1,0 +1,123 @@
+//! What a worker computes in a round.
+ghost use Rattle.std.specs.Prelude.{◌≡◌, OnOk, IfOk, IfErr, IsSome, Some, []};
+ghost use Rattle.case_view.specs.declared.kept.Kept.{Kept};
+ghost use Rattle.case_rounds.specs.Rounds.{Extends, IsPremiseOf, IsPairOf, IsRound, AreLinesOf, Covers, IsFinishOf, IsHaltOf};
+
+use crate::halt::Halt;
+use crate::inferring::inferences;
+use crate::keeping::keep_all;
+use case_journal::Limits;
+use case_view::{CaseView, Kept};
+use proof_steps::{Line, Parts, split_of};
+use spl_terms::Items;
+use std::alloc::{AllocError, Global};
+
+/// By which event a round is finished.
+#[derive(Debug, Drop)]
+pub enum Finish {
+    /// The last line of the batch states the empty clause.
+    Closed,
+    /// A conclusion of the given clause with the clause of this number, from 1, has more than 4,096 symbols: their
+    /// number, or 1,000,000 where there are more.
+    Big { partner: u32, symbols: u64 },
+    /// The given clause is split.
+    Split { parts: Parts },
+    /// All inferences of the given clause are covered by what is listed and by the lines of the batch.
+    Activate,
+}
+
+/// What a worker computed in a round: the lines that it may publish, and by which event the round is finished then.
+#[derive(Debug, Drop)]
+pub struct Batch {
+    /// How many steps the ledger had, over which it was computed.
+    pub base: u32,
+    /// The lines, in the order in which they are to be published.
+    pub lines: Items<Line>,
+    /// How the round is finished once they are published.
+    pub finish: Finish,
+}
+
+/// Infers all from the given clause and another one.
+fn cover_pair(
+    alloc: Global,
+    view: &CaseView,
+    lines: &mut Items<Line>,
+    given: &Kept,
+    other: &Kept,
+) -> Result<(), Halt>
+    requires round { IsRound view.now lines.old }
+    requires given { view.now.given ≡ Some given.now }
+    requires other { IsPremiseOf view.now other.now }
+    ensures round { OnOk result (IsRound view.now lines.new) }
+    ensures extends { OnOk result (Extends lines.old lines.new) }
+    ensures first { OnOk result (Covers view.now lines.new given.now other.now) }
+    ensures second { OnOk result (Covers view.now lines.new other.now given.now) }
+    ensures halt { IfErr result (IsHaltOf view.now lines.new) }
+{
+    let made = inferences(alloc, other.number, given, other)?;
+    keep_all(view, lines, made)?;
+    let back = inferences(alloc, other.number, other, given)?;
+    keep_all(view, lines, back)?;
+    Ok(())
+}
+
+/// Infers all from the given clause with itself and with each clause that is worked off and may be its partner.
+fn cover_all(
+    alloc: Global,
+    view: &CaseView,
+    lines: &mut Items<Line>,
+    given: &Kept,
+) -> Result<(), Halt>
+    requires none { lines.old ≡ [] }
+    requires given { view.now.given ≡ Some given.now }
+    ensures round { OnOk result (IsRound view.now lines.new) }
+    ensures covers { OnOk result ((p q : Kept) → IsPairOf view.now p q → Covers view.now lines.new p q) }
+    ensures halt { IfErr result (IsHaltOf view.now lines.new) }
+{
+    cover_pair(alloc, view, lines, given, given)?;
+    let partners = view.partners()?;
+    for k in 0..partners.len() {
+        let other = &view.worked()[partners[k] as usize];
+        cover_pair(alloc, view, lines, given, other)?;
+    }
+    Ok(())
+}
+
+/// Computes a round of the case: splits the given clause where it has parts and splits are left, else infers all from
+/// it and the clauses that are worked off, and keeps what is new (the main loop of Weidenbach 2001). It sees no table:
+/// what it answers may be published whatever other workers append meanwhile (`rounds_can_be_appended`, `rounds_wait`).
+///
+/// # Errors
+///
+/// Only where there is no memory.
+pub fn compute_round(alloc: Global, view: &CaseView, limits: &Limits) -> Result<Batch, AllocError>
+    requires { IsSome view.now.given }
+    ensures base { IfOk result (λ batch. batch.base ≡ view.now.base) }
+    ensures lines { IfOk result (λ batch. AreLinesOf view.now batch.lines) }
+    ensures finish { IfOk result (λ batch. IsFinishOf limits.now.splits view.now batch.lines batch.finish) }
+{
+    let base = view.base();
+    let given = view.given().unwrap();
+    let mut lines = Items::new(alloc);
+    if view.splits() < limits.splits {
+        if let Some(parts) = split_of(alloc, &given.stated.clause)? {
+            let finish = Finish::Split { parts };
+            return Ok(Batch {
+                base,
+                lines,
+                finish,
+            });
+        }
+    }
+    let finish = match cover_all(alloc, view, &mut lines, given) {
+        Ok(()) => Finish::Activate,
+        Err(Halt::Closed) => Finish::Closed,
+        Err(Halt::Big { partner, symbols }) => Finish::Big { partner, symbols },
+        Err(Halt::Memory) => return Err(AllocError),
+    };
+    Ok(Batch {
+        base,
+        lines,
+        finish,
+    })
+}

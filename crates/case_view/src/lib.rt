@@ -1,0 +1,15 @@
+//! What a worker sees of the case on which it works: a copy that is made once a case, and brought up to the journal by
+//! its new events alone.
+//!
+//! `specs/Views.antt` says what a view has, and for which node and journal it stands; `specs/Walks.antt` how it goes on
+//! by an event.
+#![tactic(auto)]
+
+mod kept;
+mod laws;
+mod view;
+mod walking;
+
+pub use kept::{Case, Kept};
+pub use laws::{paths_give_the_owners, views_have_the_clauses};
+pub use view::CaseView;
