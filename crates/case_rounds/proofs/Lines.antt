@@ -9,7 +9,7 @@ use Rattle.spl_terms.specs.declared.atom.Atom.{Atom}
 use Rattle.spl_terms.specs.declared.clause.Clause.{Clause}
 use Rattle.spl_terms.specs.Clauses.{is_empty, in_order, renumbered, no_atoms, IsEmpty}
 use Rattle.spl_truth.specs.Redundancy.{Subsumes}
-use Rattle.spl_truth.proofs.Subclauses.{subsumes_itself}
+use Rattle.spl_truth.specs.SubsumptionLaws.{subsumes_itself}
 use Rattle.proof_steps.specs.declared.step.Line.{Line}
 use Rattle.proof_steps.specs.Covering.{IsVariant}
 use Rattle.case_journal.specs.Journal.{last_line}
