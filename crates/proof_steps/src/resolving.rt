@@ -230,7 +230,7 @@ pub fn resolve_statements(
     }
     resolved(
         alloc,
-        Literals::new(i, part, j),
+        Literals { i, part, j },
         &p.clause,
         &q.clause,
         &p.deps,
