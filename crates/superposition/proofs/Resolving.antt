@@ -1,6 +1,6 @@
 -- Facts about resolution.
-use Rattle.std.proofs.Common.{◌≡◌, ℕ, ◌+◌, ◌<◌, arith, map, Bool, true, ◌&&◌, if◌then◌else◌, List, [], ◌∷◌, length, take, drop, Option, Some, None, option_map, refl, sym, ap, ◌∙◌, subst}
-use Rattle.std.specs.Prelude.{option_to_list, option_and_then}
+use Rattle.std.proofs.Common.{◌≡◌, ℕ, ◌+◌, ◌<◌, arith, map, true, ◌&&◌, if◌then◌else◌, List, [], ◌∷◌, length, take, drop, Option, Some, None, option_map, refl, sym, ap, ◌∙◌, subst}
+use Rattle.std.specs.Prelude.{option_to_list}
 use Rattle.std.specs.Borrow.{Bor}
 use Rattle.std.specs.List.{flat_map, enumerate_from}
 use Rattle.std.proofs.lemmas.List.Elements.{All-from_recursion}
@@ -26,7 +26,6 @@ use Rattle.calculus.specs.Inferences.{clause_of, variables_of_both, first_part, 
 use Rattle.calculus.proofs.Lifting.{first_fits, second_fits, atom_below, all_below, renamed_apart_below}
 use Rattle.superposition.specs.Words.{plain, IsAtomBelow, AreAtomsBelow, AreLentBelow, line_of_both, resolve_raised}
 use Rattle.superposition.proofs.Lists.{each_kept, each_numbered, each_mapped}
-use Rattle.superposition.proofs.Unified.{length-atom_unifier}
 
 pub resolved-there : (i : ℕ) (part : Part) (j : ℕ) (p q : Clause) → may_resolve i part j p q ≡ true → resolved i part j p q ≡ Some (in_order (resolvent i part j p q))
 resolved-there i part j p q e = ap (λ b. if b then Some (in_order (resolvent i part j p q)) else None) e

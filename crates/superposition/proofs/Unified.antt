@@ -1,16 +1,15 @@
 -- Unifiers of atoms as those of terms.
-use Rattle.std.proofs.Common.{◌≡◌, ℕ, ◌<◌, Bool, true, false, ◌&&◌, All, List, [], ◌∷◌, length, Option, Some, None, refl, sym, ap, ◌∙◌, subst}
-use Rattle.std.specs.List.{flat_map}
+use Rattle.std.proofs.Common.{◌≡◌, ℕ, ◌<◌, true, false, ◌&&◌, All, List, length, Some, None, sym, ap, ◌∙◌, subst}
 use Rattle.spl_terms.specs.declared.term.Symbol.{Symbol}
 use Rattle.spl_terms.specs.declared.term.Term.{Term, App}
 use Rattle.spl_terms.specs.declared.atom.Atom.{Atom}
 use Rattle.spl_terms.specs.declared.atom.Atom.TheVariants.{Holds, Equal}
-use Rattle.spl_terms.specs.Terms.{symbol_eq, term_variables}
+use Rattle.spl_terms.specs.Terms.{symbol_eq}
 use Rattle.spl_terms.specs.TermLaws.{replace-Var, replace-App, term_variables-App, symbol_eq-true}
 use Rattle.spl_truth.specs.Unifiers.{HasVariablesBelow, ForTermsBelow, IsUnifierOrNone, unifier}
 use Rattle.calculus.specs.Inferences.{atom_unifier}
 use Rattle.calculus.proofs.Lifting.{length-unifier}
-use Rattle.unify.specs.Fitting.{fits, all_fit}
+use Rattle.unify.specs.Fitting.{all_fit}
 use Rattle.unify.proofs.FittingLemmas.{fits-App-App}
 use Rattle.unify.proofs.AnswerLemmas.{misfit_exact}
 use Rattle.superposition.specs.Words.{IsAtomBelow}

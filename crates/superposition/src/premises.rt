@@ -36,7 +36,12 @@ fn add_eligible<'a>(
     ensures { OnOk result (plain places.new.items ≡ plain places.old.items
         ++ filter (λ x. is_eligible (clause_of premise.now) premise.now.selected part x.0) ((place, atom.now) ∷ [])) }
 {
-    if eligible(&premise.statement.clause, premise.selected, part, place as usize) {
+    if eligible(
+        &premise.statement.clause,
+        premise.selected,
+        part,
+        place as usize,
+    ) {
         places.push((place, atom))?;
     }
     Ok(())
@@ -74,7 +79,10 @@ fn raised(alloc: Global, lift: u32, term: &Term) -> Result<Term, AllocError>
             Some(higher) => Ok(Term::Var(higher)),
             None => Err(AllocError),
         },
-        Term::App(symbol, args) => Ok(Term::App(*symbol, all_raised(alloc, lift, args.as_slice())?)),
+        Term::App(symbol, args) => Ok(Term::App(
+            *symbol,
+            all_raised(alloc, lift, args.as_slice())?,
+        )),
     }
 }
 
@@ -94,8 +102,14 @@ fn raised_atom(alloc: Global, lift: u32, atom: &Atom) -> Result<Atom, AllocError
     ensures { IfOk result (λ made. made ≡ replace_in_atom (λ v. Var (lift + v)) atom.now) }
 {
     match atom {
-        Atom::Holds(predicate, args) => Ok(Atom::Holds(*predicate, all_raised(alloc, lift, args.as_slice())?)),
-        Atom::Equal(left, right) => Ok(Atom::Equal(raised(alloc, lift, left)?, raised(alloc, lift, right)?)),
+        Atom::Holds(predicate, args) => Ok(Atom::Holds(
+            *predicate,
+            all_raised(alloc, lift, args.as_slice())?,
+        )),
+        Atom::Equal(left, right) => Ok(Atom::Equal(
+            raised(alloc, lift, left)?,
+            raised(alloc, lift, right)?,
+        )),
     }
 }
 

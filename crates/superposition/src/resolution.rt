@@ -86,7 +86,14 @@ fn resolve(
         return Ok(());
     };
     let (s, t) = parted(counts.first, unifier)?;
-    let made = resolved_by(alloc, &p.statement.clause, &q.statement.clause, literals, &s, &t)?;
+    let made = resolved_by(
+        alloc,
+        &p.statement.clause,
+        &q.statement.clause,
+        literals,
+        &s,
+        &t,
+    )?;
     let Literals { i, part, j } = literals;
     append_from_both(alloc, p, q, made, Rule::Resolve { i, part, j, s, t }, out)
 }
@@ -174,5 +181,14 @@ pub fn resolutions(
     };
     let atoms = raised_atoms(alloc, first, others.as_slice())?;
     let counts = Counts { first, both };
-    resolve_all(alloc, p, q, counts, part, places.as_slice(), atoms.as_slice(), out)
+    resolve_all(
+        alloc,
+        p,
+        q,
+        counts,
+        part,
+        places.as_slice(),
+        atoms.as_slice(),
+        out,
+    )
 }

@@ -1,4 +1,4 @@
-use Rattle.std.proofs.Common.{◌≡◌, ℕ, List, arith, sym, subst}
+use Rattle.std.proofs.Common.{ℕ, List, arith, subst}
 use Rattle.std.specs.Borrow.{Bor}
 use Rattle.std.specs.List.{flat_map}
 use Rattle.spl_terms.specs.declared.atom.Atom.{Atom}

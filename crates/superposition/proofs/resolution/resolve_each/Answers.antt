@@ -1,4 +1,4 @@
-use Rattle.std.proofs.Common.{◌≡◌, arith, sym, subst}
+use Rattle.std.proofs.Common.{arith, subst}
 use Rattle.std.specs.List.{flat_map}
 use Rattle.superposition.specs.Appending.{Appended}
 use Rattle.superposition.specs.Words.{resolve_raised}

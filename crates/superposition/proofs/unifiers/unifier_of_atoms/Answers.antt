@@ -1,5 +1,4 @@
-use Rattle.std.proofs.Common.{◌≡◌, ◌∙◌, None, option_map, IfOk, sym, ap, subst}
-use Rattle.calculus.specs.Inferences.{atom_unifier}
+use Rattle.std.proofs.Common.{◌≡◌, ◌∙◌, option_map, IfOk, sym, subst}
 use Rattle.superposition.proofs.Unified.{heads_apart, heads_alike}
 use Rattle.superposition.proofs.unifiers.unifier_of_atoms.Goals as goal
 
