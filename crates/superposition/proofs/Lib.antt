@@ -1,0 +1,4 @@
+pub mod Lists
+pub mod Composing
+pub mod Unified
+pub mod Resolving
