@@ -5,9 +5,12 @@
 mod gathering;
 mod laws;
 mod scope;
+mod scoping;
 mod variables;
+mod walk;
 
 pub use gathering::{Stop, add_literal};
 pub use laws::clauses_stand;
 pub use scope::{Block, atom_instance, term_of};
 pub use variables::{add_term_variables, add_variables};
+pub use walk::add;
