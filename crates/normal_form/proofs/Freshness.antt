@@ -1,7 +1,7 @@
 -- Bindings that no block has yet: what holds of them at the parts of a formula, and behind a quantifier.
-use Rattle.std.proofs.Common.{◌≡◌, ◌⊎◌, inl, inr, ℕ, zero, suc, ◌+◌, ◌-◌, ◌<◌, ◌≤◌, Bool, true, false, not, ◌&&◌, ◌||◌, ◌==◌, nat_le, nat_lt, if◌then◌else◌, List, [], ◌∷◌, ◌++◌, map, fold, get_or, length, slice_get, unwrap_or, arith, refl, sym, subst, ap, ◌∙◌, append_assoc}
+use Rattle.std.proofs.Common.{◌≡◌, inl, inr, ℕ, zero, suc, ◌+◌, ◌-◌, ◌<◌, ◌≤◌, Bool, true, false, ◌&&◌, ◌||◌, ◌==◌, nat_le, nat_lt, if◌then◌else◌, List, [], ◌∷◌, ◌++◌, map, fold, get_or, length, slice_get, unwrap_or, arith, refl, sym, subst, ap, ◌∙◌, append_assoc}
 use Rattle.std.specs.List.{list_any, concat, filter, flat_map}
-use Rattle.std.proofs.lemmas.Bool.{eqb-true, eq-eqb, or_cases, or_left, or_right, or_from, or_parts, cases_lt, and_parts, and_from, leb-true, ltb-true, le-leb, lt-ltb, cases_eq, cases_Bool, false≢true, false_from_ne_true}
+use Rattle.std.proofs.lemmas.Bool.{eqb-true, eq-eqb, or_cases, or_left, or_right, or_from, or_parts, cases_lt, and_parts, and_from, leb-true, ltb-true, le-leb, lt-ltb, cases_eq, false≢true, false_from_ne_true}
 use Rattle.std.proofs.lemmas.List.Folds.{list_any-append}
 use Rattle.std.proofs.lemmas.List.Elements.{filter-append}
 use Rattle.spl_terms.specs.declared.term.Term.{Term, Var, App}
@@ -15,13 +15,13 @@ use Rattle.formulas.specs.declared.tree.Tree.TheFolds.{map-Tree, fold-roll-Tree}
 use Rattle.formulas.specs.Trees.{foralls, exists}
 use Rattle.formulas.specs.Negations.{signed_form}
 use Rattle.normal_form.specs.declared.scope.Block.{Block}
-use Rattle.normal_form.specs.Skolem.{is_member, Place, arguments}
+use Rattle.normal_form.specs.Skolem.{is_member, arguments}
 use Rattle.normal_form.specs.Law.{bindings_step, bindings, are_different}
 use Rattle.normal_form.specs.Occurring.{occurring}
 use Rattle.normal_form.specs.Blocks.{has_variable, with_block, term_in, is_universal, numbers_from, scope_in, place_in, for_any, skolem_terms}
 use Rattle.normal_form.specs.Walking.{AreFresh, arguments_in}
 use Rattle.normal_form.proofs.Members.{member_left, member_right}
-use Rattle.normal_form.proofs.Separate.{Disjoint, Parted, parted, member_cases}
+use Rattle.normal_form.proofs.Separate.{Disjoint, parted, member_cases}
 use Rattle.normal_form.proofs.FreeOnes.{arguments-occurring}
 use Rattle.normal_form.proofs.BlockLemmas.{form-not_foralls, form-exists}
 use Rattle.normal_form.proofs.OccurringLemmas.{occurring-foralls, occurring-exists}
@@ -77,6 +77,9 @@ fresh_part blocks [] i t h e f = absurd (omega arith)
 fresh_part blocks (u ∷ ts) zero t h e f = subst (λ w. AreFresh blocks (bindings w)) (sym e) (fresh_left blocks (bindings u) (flat_map bindings ts) f)
 fresh_part blocks (u ∷ ts) (suc i) t h e f = fresh_part blocks ts i t (omega arith) e (fresh_right blocks (bindings u) (flat_map bindings ts) f)
 
+pub fresh_outside : (vs : List ℕ) → are_different vs ≡ true → AreFresh [] vs
+fresh_outside vs d = record { outside = λ v e. refl; different = d }
+
 -- ---- the numbers of a block
 
 pub block_has : (first count v : ℕ) → is_member v (numbers_from first count) ≡ true → (nat_le first v && nat_lt (v - first) count) ≡ true
@@ -84,10 +87,10 @@ block_has first zero v h = absurd (false≢true h)
 block_has first (suc count) v h = elim (or_cases (v == first) (is_member v (numbers_from (suc first) count)) h) [
   | inl e ↦ (let same = eqb-true v first e in and_from (nat_le first v) (nat_lt (v - first) (suc count)) (le-leb first v (omega arith)) (lt-ltb (v - first) (suc count) (omega arith)))
   | inr k ↦
-    (let p = and_parts (nat_le (suc first) v) (nat_lt (v - suc first) count) (block_has (suc first) count v k) in
-    let low = leb-true (suc first) v p.0 in
-    let high = ltb-true (v - suc first) count p.1 in
-    and_from (nat_le first v) (nat_lt (v - first) (suc count)) (le-leb first v (omega arith)) (lt-ltb (v - first) (suc count) (omega arith)))
+      (let p = and_parts (nat_le (suc first) v) (nat_lt (v - suc first) count) (block_has (suc first) count v k) in
+      let low = leb-true (suc first) v p.0 in
+      let high = ltb-true (v - suc first) count p.1 in
+      and_from (nat_le first v) (nat_lt (v - first) (suc count)) (le-leb first v (omega arith)) (lt-ltb (v - first) (suc count) (omega arith)))
 ]
 
 pub among_block : (first count v : ℕ) → (nat_le first v && nat_lt (v - first) count) ≡ true → is_member v (numbers_from first count) ≡ true

@@ -64,11 +64,7 @@ fn add_listed(numbers: &[u32], number: u64, found: &mut Items<u32>) -> Result<()
 }
 
 /// Appends the universal variables of a block that are in the list.
-fn add_arguments(
-    block: &Block,
-    standing: &[u32],
-    found: &mut Items<u32>,
-) -> Result<(), AllocError>
+fn add_arguments(block: &Block, standing: &[u32], found: &mut Items<u32>) -> Result<(), AllocError>
     ensures { OnOk result (found.new ≡ found.old ++ arguments_of block.now standing.now) }
 {
     if !block.terms.is_empty() {

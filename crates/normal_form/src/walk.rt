@@ -12,10 +12,10 @@ ghost use Rattle.spl_terms.specs.Clauses.{replace_in_atom};
 ghost use Rattle.normal_form.specs.Walking.{CanAdd, AreFresh};
 ghost use Rattle.normal_form.specs.Law.{bindings};
 
-use formulas::{Case, Count, Formula};
 use crate::gathering::{Stop, add_literal};
 use crate::scope::{Block, atom_instance};
 use crate::scoping::skolem_block;
+use formulas::{Case, Count, Formula};
 use spl_terms::{Atom, Clause, Items};
 use std::alloc::Global;
 
@@ -149,14 +149,18 @@ pub fn add(
             if sign {
                 add_universal(alloc, blocks, clause, first, count, part, true, next, place)
             } else {
-                add_existential(alloc, blocks, clause, first, count, part, false, next, place)
+                add_existential(
+                    alloc, blocks, clause, first, count, part, false, next, place,
+                )
             }
         }
         Case::Exists(first, count, part) => {
             if sign {
                 add_existential(alloc, blocks, clause, first, count, part, true, next, place)
             } else {
-                add_universal(alloc, blocks, clause, first, count, part, false, next, place)
+                add_universal(
+                    alloc, blocks, clause, first, count, part, false, next, place,
+                )
             }
         }
     }

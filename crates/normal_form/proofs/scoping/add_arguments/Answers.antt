@@ -1,4 +1,4 @@
-use Rattle.std.proofs.Common.{◌≡◌, ◌++◌, ◌+◌, [], ◌∷◌, ap, ◌∙◌}
+use Rattle.std.proofs.Common.{◌++◌, ◌+◌, [], ◌∷◌, ap, ◌∙◌}
 use Rattle.std.specs.List.{filter}
 use Rattle.normal_form.specs.Skolem.{is_member}
 use Rattle.normal_form.proofs.Freshness.{filter_more}

@@ -124,7 +124,7 @@ pub add_universal-returns-clause-added : goal.add_universal-returns-clause-added
 add_universal-returns-clause-added t c =
     (let f : Form = signed_form c.args.part.now c.args.sign in
     let b : Block = universal_block c.args.first c.args.count in
-    let pushed : c.push_universal.new.blocks ≡ c.args.blocks.now ++ b ∷ [] = c.in_ok-push_universal.ensures in 
+    let pushed : c.push_universal.new.blocks ≡ c.args.blocks.now ++ b ∷ [] = c.in_ok-push_universal.ensures in
     c.in_ok-add.ensures.added
     ∙ ap (λ p. gathered c.args.clause.now (chosen f p c.args.place)) (ap (λ bs. place_in bs c.args.next) pushed ∙ place-universal c.args.blocks.now c.args.first c.args.count c.args.next)
     ∙ ap (gathered c.args.clause.now) (sym (chosen-for_each c.args.first c.args.count f (place_in c.args.blocks.now c.args.next) c.args.place)))
