@@ -2,14 +2,13 @@
 
 ghost use Rattle.std.specs.List.{flat_map};
 ghost use Rattle.std.specs.Prelude.{◌≡◌, ◌∷◌, ◌++◌, [], ◌<◌, ◌≤◌, ◌+◌, Bool, true, false, not, if◌then◌else◌, ℕ, OnOk, IfOk};
-ghost use Rattle.formulas.specs.Negations.{Form, both, either, signed_form, all_of, some_of};
+ghost use Rattle.formulas.specs.Negations.{signed_form, all_of, some_of};
 ghost use Rattle.formulas.specs.Counts.{count_of, clause_count};
 ghost use Rattle.normal_form.specs.declared.scope.Block.{Block};
-ghost use Rattle.normal_form.specs.Choices.{chosen};
 ghost use Rattle.normal_form.specs.Blocks.{place_in, term_in, numbers_from, for_each, for_any, universal_block, existential_block};
-ghost use Rattle.normal_form.specs.Gathering.{gathered, with_literal};
+ghost use Rattle.normal_form.specs.Gathering.{with_literal};
 ghost use Rattle.spl_terms.specs.Clauses.{replace_in_atom};
-ghost use Rattle.normal_form.specs.Walking.{CanAdd, AreFresh};
+ghost use Rattle.normal_form.specs.Walking.{CanAdd, AreFresh, one_of, both_of, agreement, difference, with_chosen};
 ghost use Rattle.normal_form.specs.Law.{bindings};
 
 use crate::gathering::{Stop, add_literal};
@@ -32,7 +31,7 @@ pub fn count(formula: &Formula, sign: bool) -> Count
 
 /// The count where one of two formulas holds.
 fn count_either(left: &Formula, left_sign: bool, right: &Formula, right_sign: bool) -> Count
-    ensures { result ≡ count_of (either (signed_form left.now left_sign) (signed_form right.now right_sign)) }
+    ensures { result ≡ count_of (one_of left.now left_sign right.now right_sign) }
 {
     count(left, left_sign).either(count(right, right_sign))
 }
@@ -107,7 +106,7 @@ pub fn add(
 ) -> Result<(), Stop>
     requires can { CanAdd (signed_form formula.now sign) next place }
     requires fresh { AreFresh blocks.now (bindings formula.now) }
-    ensures added { OnOk result (clause.new ≡ gathered clause.old (chosen (signed_form formula.now sign) (place_in blocks.old next) place)) }
+    ensures added { OnOk result (clause.new ≡ with_chosen clause.old (signed_form formula.now sign) blocks.old next place) }
     ensures kept { OnOk result (blocks.new ≡ blocks.old) }
 {
     match formula.case() {
@@ -179,10 +178,10 @@ fn add_both(
     next: u32,
     place: u32,
 ) -> Result<(), Stop>
-    requires can { CanAdd (either (signed_form left.now left_sign) (signed_form right.now right_sign)) next place }
+    requires can { CanAdd (one_of left.now left_sign right.now right_sign) next place }
     requires left { AreFresh blocks.now (bindings left.now) }
     requires right { AreFresh blocks.now (bindings right.now) }
-    ensures added { OnOk result (clause.new ≡ gathered clause.old (chosen (either (signed_form left.now left_sign) (signed_form right.now right_sign)) (place_in blocks.old next) place)) }
+    ensures added { OnOk result (clause.new ≡ with_chosen clause.old (one_of left.now left_sign right.now right_sign) blocks.old next place) }
     ensures kept { OnOk result (blocks.new ≡ blocks.old) }
 {
     let skolems = count(left, left_sign).skolems;
@@ -212,10 +211,10 @@ fn add_one(
     next: u32,
     place: u32,
 ) -> Result<(), Stop>
-    requires can { CanAdd (both (signed_form left.now left_sign) (signed_form right.now right_sign)) next place }
+    requires can { CanAdd (both_of left.now left_sign right.now right_sign) next place }
     requires left { AreFresh blocks.now (bindings left.now) }
     requires right { AreFresh blocks.now (bindings right.now) }
-    ensures added { OnOk result (clause.new ≡ gathered clause.old (chosen (both (signed_form left.now left_sign) (signed_form right.now right_sign)) (place_in blocks.old next) place)) }
+    ensures added { OnOk result (clause.new ≡ with_chosen clause.old (both_of left.now left_sign right.now right_sign) blocks.old next place) }
     ensures kept { OnOk result (blocks.new ≡ blocks.old) }
 {
     let first = count(left, left_sign);
@@ -245,10 +244,10 @@ fn add_equivalence(
     next: u32,
     place: u32,
 ) -> Result<(), Stop>
-    requires can { CanAdd (both (either (signed_form left.now false) (signed_form right.now true)) (either (signed_form right.now false) (signed_form left.now true))) next place }
+    requires can { CanAdd (agreement left.now right.now) next place }
     requires left { AreFresh blocks.now (bindings left.now) }
     requires right { AreFresh blocks.now (bindings right.now) }
-    ensures added { OnOk result (clause.new ≡ gathered clause.old (chosen (both (either (signed_form left.now false) (signed_form right.now true)) (either (signed_form right.now false) (signed_form left.now true))) (place_in blocks.old next) place)) }
+    ensures added { OnOk result (clause.new ≡ with_chosen clause.old (agreement left.now right.now) blocks.old next place) }
     ensures kept { OnOk result (blocks.new ≡ blocks.old) }
 {
     let first = count_either(left, false, right, true);
@@ -280,10 +279,10 @@ fn add_difference(
     next: u32,
     place: u32,
 ) -> Result<(), Stop>
-    requires can { CanAdd (both (either (signed_form left.now true) (signed_form right.now true)) (either (signed_form left.now false) (signed_form right.now false))) next place }
+    requires can { CanAdd (difference left.now right.now) next place }
     requires left { AreFresh blocks.now (bindings left.now) }
     requires right { AreFresh blocks.now (bindings right.now) }
-    ensures added { OnOk result (clause.new ≡ gathered clause.old (chosen (both (either (signed_form left.now true) (signed_form right.now true)) (either (signed_form left.now false) (signed_form right.now false))) (place_in blocks.old next) place)) }
+    ensures added { OnOk result (clause.new ≡ with_chosen clause.old (difference left.now right.now) blocks.old next place) }
     ensures kept { OnOk result (blocks.new ≡ blocks.old) }
 {
     let first = count_either(left, true, right, true);
@@ -319,7 +318,7 @@ fn add_universal(
 ) -> Result<(), Stop>
     requires can { CanAdd (for_each first count (signed_form part.now sign)) next place }
     requires fresh { AreFresh blocks.now (numbers_from first count ++ bindings part.now) }
-    ensures added { OnOk result (clause.new ≡ gathered clause.old (chosen (for_each first count (signed_form part.now sign)) (place_in blocks.old next) place)) }
+    ensures added { OnOk result (clause.new ≡ with_chosen clause.old (for_each first count (signed_form part.now sign)) blocks.old next place) }
     ensures kept { OnOk result (blocks.new ≡ blocks.old) }
 {
     push_universal(alloc, blocks, first, count)?;
@@ -343,7 +342,7 @@ fn add_existential(
 ) -> Result<(), Stop>
     requires can { CanAdd (for_any first count (signed_form part.now sign)) next place }
     requires fresh { AreFresh blocks.now (numbers_from first count ++ bindings part.now) }
-    ensures added { OnOk result (clause.new ≡ gathered clause.old (chosen (for_any first count (signed_form part.now sign)) (place_in blocks.old next) place)) }
+    ensures added { OnOk result (clause.new ≡ with_chosen clause.old (for_any first count (signed_form part.now sign)) blocks.old next place) }
     ensures kept { OnOk result (blocks.new ≡ blocks.old) }
 {
     push_existential(alloc, blocks, first, count, part, next)?;
@@ -365,7 +364,7 @@ fn add_in_one(
 ) -> Result<(), Stop>
     requires can { CanAdd (all_of sign parts.now) next place }
     requires fresh { AreFresh blocks.now (flat_map bindings parts.now) }
-    ensures added { OnOk result (clause.new ≡ gathered clause.old (chosen (all_of sign parts.now) (place_in blocks.old next) place)) }
+    ensures added { OnOk result (clause.new ≡ with_chosen clause.old (all_of sign parts.now) blocks.old next place) }
     ensures kept { OnOk result (blocks.new ≡ blocks.old) }
 {
     let mut next = next;
@@ -396,7 +395,7 @@ fn add_in_each(
     requires can { CanAdd (some_of sign parts.now) next place }
     requires exact { rest ≡ clause_count (some_of sign parts.now) }
     requires fresh { AreFresh blocks.now (flat_map bindings parts.now) }
-    ensures added { OnOk result (clause.new ≡ gathered clause.old (chosen (some_of sign parts.now) (place_in blocks.old next) place)) }
+    ensures added { OnOk result (clause.new ≡ with_chosen clause.old (some_of sign parts.now) blocks.old next place) }
     ensures kept { OnOk result (blocks.new ≡ blocks.old) }
 {
     let mut next = next;
