@@ -156,9 +156,14 @@ block_term first count next args v t =
     (λ h. ap (λ o. unwrap_or o (Var v)) (skolem_at next args count (v - first) (in_parts first count v h).1))
 
 -- the place behind an existential quantifier is that of the blocks with its block, and with its symbols
-pub place-existential : (blocks : List Block) (first count next : ℕ) (f : Form) → 0 < count → place_in (blocks ++ existential_block first count f (place_in blocks next) ∷ []) (next + count) ≡ with_skolems first count f (place_in blocks next)
-place-existential blocks first zero next f h = absurd (omega arith)
-place-existential blocks first (suc count) next f h =
+pub place-existential : (blocks : List Block) (first count next : ℕ) (f : Form) → place_in (blocks ++ existential_block first count f (place_in blocks next) ∷ []) (next + count) ≡ with_skolems first count f (place_in blocks next)
+place-existential blocks first zero next f =
+    let b : Block = existential_block first 0 f (place_in blocks next) in
+    same_place (place_in (blocks ++ b ∷ []) (next + 0)) (place_in blocks next)
+    (λ v. last_block blocks b v ∙ ap (λ t. if t then unwrap_or (slice_get b.terms (v - first)) (Var v) else term_in blocks v) (in_nothing first v))
+    (flat_map-append (λ c. if is_universal c then numbers_from c.first c.count else []) blocks (b ∷ []) ∙ append-nil (scope_in blocks))
+    (let e : next + 0 ≡ next = omega arith in e)
+place-existential blocks first (suc count) next f =
     let p : Place = place_in blocks next in
     let b : Block = existential_block first (suc count) f p in
     let args : List ℕ = arguments (for_any first (suc count) f) p in

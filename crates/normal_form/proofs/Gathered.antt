@@ -6,7 +6,8 @@ use Rattle.spl_terms.specs.declared.atom.Atom.{Atom}
 use Rattle.spl_terms.specs.declared.clause.Part.{Part}
 use Rattle.spl_terms.specs.declared.clause.Part.TheVariants.{Constraint, Antecedent, Succedent}
 use Rattle.spl_terms.specs.declared.clause.Clause.{Clause}
-use Rattle.spl_terms.specs.Clauses.{is_of_sort, is_same, added, part_of, with_atom, clause_symbols, renumbered}
+use Rattle.spl_terms.specs.Clauses.{is_of_sort, is_same, added, part_of, with_atom, clause_symbols, distinct, at_lists, renumbered, in_order}
+use Rattle.spl_terms.specs.InOrderLaws.{distinct-different, different-distinct}
 use Rattle.spl_terms.specs.SizeLaws.{with_atom-repeated, with_atom-new}
 use Rattle.normal_form.specs.Clausal.{Literal, stands_right, stands_left, stands_in_constraint, atoms_where, clause_of}
 use Rattle.normal_form.specs.Gathering.{part_for, with_literal, no_literals, gathered}
@@ -35,6 +36,18 @@ gathered_parts c (l ∷ ls) = gathered_parts (with_literal c l) ls ∙ one l.sig
 -- once the variables are numbered, it is the clause of the list
 pub clause-gathered : (ls : List Literal) → clause_of ls ≡ renumbered (gathered no_literals ls)
 clause-gathered ls = ap renumbered (sym (gathered_parts no_literals ls))
+
+parts_kept : (ls : List Literal) → at_lists distinct (by_parts no_literals ls) ≡ by_parts no_literals ls
+parts_kept ls =
+    let kept : (test : Literal → Bool) → distinct (distinct (atoms_where test ls)) ≡ distinct (atoms_where test ls) = λ test. different-distinct (distinct (atoms_where test ls)) (distinct-different (atoms_where test ls)) in
+    let x = kept stands_in_constraint in
+    let y = kept stands_left in
+    let z = kept stands_right in
+    λ i. record { constraint = x i; antecedent = y i; succedent = z i }
+
+-- and so it is once it is brought into order
+pub in_order-gathered : (ls : List Literal) → in_order (gathered no_literals ls) ≡ clause_of ls
+in_order-gathered ls = ap in_order (gathered_parts no_literals ls) ∙ ap renumbered (parts_kept ls)
 
 -- ---- sizes
 

@@ -20,3 +20,6 @@ pub mod BlockLemmas
 pub mod Gathered
 pub mod FreeOnes
 pub mod Walks
+pub mod Freshness
+pub mod Finding
+pub mod Found

@@ -1,5 +1,5 @@
--- The law: the clauses of the normal form stand for the formulas.
-use Rattle.std.specs.Prelude.{◌≡◌, ℕ, Bool, true, false, not, ◌&&◌, ◌||◌, ◌==◌, nat_lt, List, [], ◌∷◌, ◌++◌, Contains}
+-- The laws: the clauses of the normal form stand for the formulas, and there are as many as are counted.
+use Rattle.std.specs.Prelude.{◌≡◌, ℕ, Bool, true, false, not, ◌&&◌, ◌||◌, ◌==◌, nat_lt, List, [], ◌∷◌, ◌++◌, Contains, length}
 use Rattle.std.specs.List.{list_any, list_all, concat}
 use Rattle.spl_terms.specs.declared.term.Term.{Term, Term-F, fold-Term}
 use Rattle.spl_terms.specs.declared.term.Term.TheOpen as term_layer
@@ -8,7 +8,9 @@ use Rattle.spl_terms.specs.Clauses.{atom_terms, atom_variables}
 use Rattle.formulas.specs.declared.tree.Tree.{Tree, Tree-F, fold-Tree}
 use Rattle.formulas.specs.declared.tree.Tree.TheOpen as layer
 use Rattle.normal_form.specs.Skolem.{is_member}
-use Rattle.normal_form.specs.NormalForm.{normal_form}
+use Rattle.formulas.specs.Negations.{Form}
+use Rattle.formulas.specs.Counts.{clause_count}
+use Rattle.normal_form.specs.NormalForm.{clauses_of_form, normal_form}
 use Rattle.normal_form.specs.Structures.{StandFor}
 
 abbrev pub free_step : ℕ → Tree-F Bool → Bool
@@ -84,3 +86,6 @@ pub record IsEntry (next : ℕ) (f : Tree) : Type 0 where
 
 abbrev pub ClausesStand : Type 0
 ClausesStand = (next : ℕ) (fs : List Tree) → ((f : Tree) → Contains fs f → IsEntry next f) → StandFor next (normal_form next fs) fs
+
+abbrev pub ClausesAreCounted : Type 0
+ClausesAreCounted = (next : ℕ) (f : Form) → length (clauses_of_form next f) ≡ clause_count f

@@ -1,0 +1,22 @@
+-- What the search for a part among several asks for.
+use Rattle.std.specs.Prelude.{◌≡◌, ℕ, ◌+◌, ◌<◌, ◌≤◌, Bool, List, map}
+use Rattle.formulas.specs.declared.tree.Tree.{Tree}
+use Rattle.formulas.specs.Negations.{Form, signed_form}
+use Rattle.normal_form.specs.Choices.{product_count}
+use Rattle.normal_form.specs.Walking.{sum_count, skolem_count}
+
+abbrev pub forms_of : Bool → List Tree → List Form
+forms_of sign ts = map (λ f. f sign) (map signed_form ts)
+
+-- the place is within the lists of the parts that are left, and their counts are exact
+pub record CanFind (fs : List Form) (next place : ℕ) : Type 0 where
+  pub within : place < sum_count fs
+  pub few : sum_count fs ≤ 65536
+  pub room : next + skolem_count fs ≤ 65536
+
+-- the place is within the products of the parts that are left, and rest is how many these are
+pub record CanTake (fs : List Form) (next place rest : ℕ) : Type 0 where
+  pub exact : rest ≡ product_count fs
+  pub within : place < product_count fs
+  pub few : product_count fs ≤ 65536
+  pub room : next + skolem_count fs ≤ 65536

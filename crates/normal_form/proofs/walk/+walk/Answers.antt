@@ -1,0 +1,338 @@
+use Rattle.std.proofs.Common.{◌≡◌, [], ◌∷◌, ◌++◌, ℕ, ◌+◌, ◌/◌, ◌%◌, ◌<◌, List, drop, true, false, OnOk, refl, sym, subst, ap, ◌∙◌, arith}
+use Rattle.formulas.specs.Negations.{Form, signed_form}
+use Rattle.formulas.specs.Counts.{clause_count, existentials}
+use Rattle.formulas.specs.FormLaws.{form-True, form-False, form-Atom, form-Not, form-Implies, form-not_Implies, form-Equiv, form-not_Equiv, form-And, form-Or}
+use Rattle.normal_form.specs.Choices.{chosen, chosen_in_each, product_count}
+use Rattle.normal_form.specs.Skolem.{Place, behind}
+use Rattle.normal_form.specs.Blocks.{place_in, universal_block, existential_block}
+use Rattle.normal_form.proofs.BlockLemmas.{form-foralls, form-not_foralls, form-exists, form-not_exists, place-universal, place-existential, chosen-for_each, chosen-for_any}
+use Rattle.normal_form.specs.Gathering.{gathered}
+use Rattle.normal_form.specs.Walking.{CanAdd, AreFresh}
+use Rattle.normal_form.specs.Law.{bindings}
+use Rattle.normal_form.proofs.Freshness.{bindings-Not, bindings-And, bindings-Or, bindings-Implies, bindings-Equiv, bindings-foralls, bindings-exists, fresh_left, fresh_right, fresh_part, fresh_behind}
+use Rattle.normal_form.specs.declared.scope.Block.{Block}
+use Rattle.normal_form.proofs.Walks.{can_left, can_right, can_universal, can_existential, exact_clauses, exact_skolems}
+use Rattle.normal_form.proofs.Finding.{forms_of, CanTake}
+use Rattle.normal_form.proofs.Found.{can_find, here, next_found, popped, can_take, next_taken, next_made, element_most, drop_past, gathered_two}
+use Rattle.normal_form.proofs.Several.{all_chosen, some_chosen}
+use Rattle.normal_form.proofs.walk.+walk.Goals as goal
+
+pub add-add-requires : goal.add-add-requires
+add-add-requires t c = (
+  omega (arith, c.decreases, c.in-Not.ensures.smaller),
+  (subst (λ f. CanAdd f c.args.next c.args.place) (ap (λ u. signed_form u c.args.sign) c.in-Not.ensures.shown ∙ form-Not c.in-Not.part.now c.args.sign) c.requires.can, subst (AreFresh c.args.blocks.now) (ap bindings c.in-Not.ensures.shown ∙ bindings-Not c.in-Not.part.now) c.requires.fresh),
+)
+
+pub add-add_both-requires : goal.add-add_both-requires
+add-add_both-requires t c = (
+  omega (arith, c.decreases, c.in-Implies.ensures.smaller),
+  (subst (λ f. CanAdd f c.args.next c.args.place) ((λ i. signed_form (c.in-Implies.ensures.shown i) (c.if-sign.true i)) ∙ form-Implies c.in-Implies.left.now c.in-Implies.right.now) c.requires.can, (fresh_left c.args.blocks.now (bindings c.in-Implies.left.now) (bindings c.in-Implies.right.now) (subst (AreFresh c.args.blocks.now) (ap bindings c.in-Implies.ensures.shown ∙ bindings-Implies c.in-Implies.left.now c.in-Implies.right.now) c.requires.fresh), fresh_right c.args.blocks.now (bindings c.in-Implies.left.now) (bindings c.in-Implies.right.now) (subst (AreFresh c.args.blocks.now) (ap bindings c.in-Implies.ensures.shown ∙ bindings-Implies c.in-Implies.left.now c.in-Implies.right.now) c.requires.fresh))),
+)
+
+pub add-add_one-requires : goal.add-add_one-requires
+add-add_one-requires t c = (
+  omega (arith, c.decreases, c.in-Implies.ensures.smaller),
+  (subst (λ f. CanAdd f c.args.next c.args.place) ((λ i. signed_form (c.in-Implies.ensures.shown i) (c.if-sign.false i)) ∙ form-not_Implies c.in-Implies.left.now c.in-Implies.right.now) c.requires.can, (fresh_left c.args.blocks.now (bindings c.in-Implies.left.now) (bindings c.in-Implies.right.now) (subst (AreFresh c.args.blocks.now) (ap bindings c.in-Implies.ensures.shown ∙ bindings-Implies c.in-Implies.left.now c.in-Implies.right.now) c.requires.fresh), fresh_right c.args.blocks.now (bindings c.in-Implies.left.now) (bindings c.in-Implies.right.now) (subst (AreFresh c.args.blocks.now) (ap bindings c.in-Implies.ensures.shown ∙ bindings-Implies c.in-Implies.left.now c.in-Implies.right.now) c.requires.fresh))),
+)
+
+pub add-returns-in-True-clause-added : goal.add-returns-in-True-clause-added
+add-returns-in-True-clause-added t c =
+    sym (ap (λ f. gathered c.args.clause.now (chosen f (place_in c.args.blocks.now c.args.next) c.args.place)) (ap (λ u. signed_form u c.args.sign) c.in-True.ensures.shown ∙ form-True c.args.sign))
+
+pub add-returns-in-False-clause-added : goal.add-returns-in-False-clause-added
+add-returns-in-False-clause-added t c =
+    sym (ap (λ f. gathered c.args.clause.now (chosen f (place_in c.args.blocks.now c.args.next) c.args.place)) (ap (λ u. signed_form u c.args.sign) c.in-False.ensures.shown ∙ form-False c.args.sign))
+
+pub add-returns-in-Atom-clause-added : goal.add-returns-in-Atom-clause-added
+add-returns-in-Atom-clause-added t c =
+    subst (λ f. OnOk c.add_atom.result (c.add_atom.new.clause ≡ gathered c.args.clause.now (chosen f (place_in c.args.blocks.now c.args.next) c.args.place)))
+    (sym (ap (λ u. signed_form u c.args.sign) c.in-Atom.ensures.shown ∙ form-Atom c.in-Atom.atom.now c.args.sign)) c.add_atom.ensures
+
+pub add-returns-in-Not-clause-added : goal.add-returns-in-Not-clause-added
+add-returns-in-Not-clause-added t c =
+    subst (λ f. OnOk c.add.result (c.add.new.clause ≡ gathered c.args.clause.now (chosen f (place_in c.args.blocks.now c.args.next) c.args.place)))
+    (sym (ap (λ u. signed_form u c.args.sign) c.in-Not.ensures.shown ∙ form-Not c.in-Not.part.now c.args.sign)) c.add.ensures.added
+
+pub add-returns-then-sign-clause-added : goal.add-returns-then-sign-clause-added
+add-returns-then-sign-clause-added t c =
+    subst (λ f. OnOk c.add_both.result (c.add_both.new.clause ≡ gathered c.args.clause.now (chosen f (place_in c.args.blocks.now c.args.next) c.args.place)))
+    (sym ((λ i. signed_form (c.in-Implies.ensures.shown i) (c.if-sign.true i)) ∙ form-Implies c.in-Implies.left.now c.in-Implies.right.now)) c.add_both.ensures.added
+
+pub add-returns-else-sign-clause-added : goal.add-returns-else-sign-clause-added
+add-returns-else-sign-clause-added t c =
+    subst (λ f. OnOk c.add_one.result (c.add_one.new.clause ≡ gathered c.args.clause.now (chosen f (place_in c.args.blocks.now c.args.next) c.args.place)))
+    (sym ((λ i. signed_form (c.in-Implies.ensures.shown i) (c.if-sign.false i)) ∙ form-not_Implies c.in-Implies.left.now c.in-Implies.right.now)) c.add_one.ensures.added
+
+pub add_both-add-requires : goal.add_both-add-requires
+add_both-add-requires t c =
+    (let f : Form = signed_form c.args.left.now c.args.left_sign in
+    let g : Form = signed_form c.args.right.now c.args.right_sign in
+    let rows : c.count-rows.result.clauses ≡ clause_count g = ap (λ x. x.clauses) c.count-rows.ensures ∙ exact_clauses g (can_right f g c.args.next c.args.place c.requires.can).few in
+    (omega (arith, c.decreases), (subst (λ n. CanAdd f c.args.next (c.args.place / n)) (sym rows) (can_left f g c.args.next c.args.place c.requires.can), c.requires.left)))
+
+pub add_both-add-requires-2 : goal.add_both-add-requires-2
+add_both-add-requires-2 t c =
+    (let f : Form = signed_form c.args.left.now c.args.left_sign in
+    let g : Form = signed_form c.args.right.now c.args.right_sign in
+    let rows : c.count-rows.result.clauses ≡ clause_count g = ap (λ x. x.clauses) c.count-rows.ensures ∙ exact_clauses g (can_right f g c.args.next c.args.place c.requires.can).few in
+    let skolems : c.count-skolems.result.skolems ≡ existentials f = ap (λ x. x.skolems) c.count-skolems.ensures ∙ exact_skolems f (let room = (can_left f g c.args.next c.args.place c.requires.can).room in omega arith) in
+    (omega (arith, c.decreases), (subst (λ n. CanAdd g (c.args.next + c.count-skolems.result.skolems) (c.args.place % n)) (sym rows) (subst (λ n. CanAdd g (c.args.next + n) (c.args.place % clause_count g)) (sym skolems) (can_right f g c.args.next c.args.place c.requires.can)), subst (λ bs. AreFresh bs (bindings c.args.right.now)) (sym c.in_ok-add.ensures.kept) c.requires.right)))
+
+pub add-add_equivalence-requires : goal.add-add_equivalence-requires
+add-add_equivalence-requires t c = (
+  omega (arith, c.decreases, c.in-Equiv.ensures.smaller),
+  (subst (λ f. CanAdd f c.args.next c.args.place) ((λ i. signed_form (c.in-Equiv.ensures.shown i) (c.if-sign-4.true i)) ∙ form-Equiv c.in-Equiv.left.now c.in-Equiv.right.now) c.requires.can, (fresh_left c.args.blocks.now (bindings c.in-Equiv.left.now) (bindings c.in-Equiv.right.now) (subst (AreFresh c.args.blocks.now) (ap bindings c.in-Equiv.ensures.shown ∙ bindings-Equiv c.in-Equiv.left.now c.in-Equiv.right.now) c.requires.fresh), fresh_right c.args.blocks.now (bindings c.in-Equiv.left.now) (bindings c.in-Equiv.right.now) (subst (AreFresh c.args.blocks.now) (ap bindings c.in-Equiv.ensures.shown ∙ bindings-Equiv c.in-Equiv.left.now c.in-Equiv.right.now) c.requires.fresh))),
+)
+
+pub add-add_difference-requires : goal.add-add_difference-requires
+add-add_difference-requires t c = (
+  omega (arith, c.decreases, c.in-Equiv.ensures.smaller),
+  (subst (λ f. CanAdd f c.args.next c.args.place) ((λ i. signed_form (c.in-Equiv.ensures.shown i) (c.if-sign-4.false i)) ∙ form-not_Equiv c.in-Equiv.left.now c.in-Equiv.right.now) c.requires.can, (fresh_left c.args.blocks.now (bindings c.in-Equiv.left.now) (bindings c.in-Equiv.right.now) (subst (AreFresh c.args.blocks.now) (ap bindings c.in-Equiv.ensures.shown ∙ bindings-Equiv c.in-Equiv.left.now c.in-Equiv.right.now) c.requires.fresh), fresh_right c.args.blocks.now (bindings c.in-Equiv.left.now) (bindings c.in-Equiv.right.now) (subst (AreFresh c.args.blocks.now) (ap bindings c.in-Equiv.ensures.shown ∙ bindings-Equiv c.in-Equiv.left.now c.in-Equiv.right.now) c.requires.fresh))),
+)
+
+pub add-add_universal-requires : goal.add-add_universal-requires
+add-add_universal-requires t c = (
+  omega (arith, c.decreases, c.in-Forall.ensures.smaller),
+  (subst (λ f. CanAdd f c.args.next c.args.place) ((λ i. signed_form (c.in-Forall.ensures.shown i) (c.if-sign-5.true i)) ∙ form-foralls c.in-Forall.first c.in-Forall.count c.in-Forall.part.now) c.requires.can, subst (AreFresh c.args.blocks.now) (ap bindings c.in-Forall.ensures.shown ∙ bindings-foralls c.in-Forall.first c.in-Forall.count c.in-Forall.part.now) c.requires.fresh),
+)
+
+pub add-returns-then-sign-4-clause-added : goal.add-returns-then-sign-4-clause-added
+add-returns-then-sign-4-clause-added t c =
+    subst (λ f. OnOk c.add_equivalence.result (c.add_equivalence.new.clause ≡ gathered c.args.clause.now (chosen f (place_in c.args.blocks.now c.args.next) c.args.place)))
+    (sym ((λ i. signed_form (c.in-Equiv.ensures.shown i) (c.if-sign-4.true i)) ∙ form-Equiv c.in-Equiv.left.now c.in-Equiv.right.now)) c.add_equivalence.ensures.added
+
+pub add-returns-else-sign-4-clause-added : goal.add-returns-else-sign-4-clause-added
+add-returns-else-sign-4-clause-added t c =
+    subst (λ f. OnOk c.add_difference.result (c.add_difference.new.clause ≡ gathered c.args.clause.now (chosen f (place_in c.args.blocks.now c.args.next) c.args.place)))
+    (sym ((λ i. signed_form (c.in-Equiv.ensures.shown i) (c.if-sign-4.false i)) ∙ form-not_Equiv c.in-Equiv.left.now c.in-Equiv.right.now)) c.add_difference.ensures.added
+
+pub add-returns-then-sign-5-clause-added : goal.add-returns-then-sign-5-clause-added
+add-returns-then-sign-5-clause-added t c =
+    subst (λ f. OnOk c.add_universal.result (c.add_universal.new.clause ≡ gathered c.args.clause.now (chosen f (place_in c.args.blocks.now c.args.next) c.args.place)))
+    (sym ((λ i. signed_form (c.in-Forall.ensures.shown i) (c.if-sign-5.true i)) ∙ form-foralls c.in-Forall.first c.in-Forall.count c.in-Forall.part.now)) c.add_universal.ensures.added
+
+pub add_universal-add-requires : goal.add_universal-add-requires
+add_universal-add-requires t c =
+    (let f : Form = signed_form c.args.part.now c.args.sign in
+    let b : Block = universal_block c.args.first c.args.count in
+    let pushed : c.push_universal.new.blocks ≡ c.args.blocks.now ++ b ∷ [] = c.in_ok-push_universal.ensures in (
+      omega (arith, c.decreases),
+      (can_universal c.args.first c.args.count f c.args.next c.args.place c.requires.can, subst (λ bs. AreFresh bs (bindings c.args.part.now)) (sym pushed) (fresh_behind c.args.blocks.now b (bindings c.args.part.now) c.requires.fresh)),
+    ))
+
+pub add_universal-returns-clause-added : goal.add_universal-returns-clause-added
+add_universal-returns-clause-added t c =
+    (let f : Form = signed_form c.args.part.now c.args.sign in
+    let b : Block = universal_block c.args.first c.args.count in
+    let pushed : c.push_universal.new.blocks ≡ c.args.blocks.now ++ b ∷ [] = c.in_ok-push_universal.ensures in
+    c.in_ok-add.ensures.added
+    ∙ ap (λ p. gathered c.args.clause.now (chosen f p c.args.place)) (ap (λ bs. place_in bs c.args.next) pushed ∙ place-universal c.args.blocks.now c.args.first c.args.count c.args.next)
+    ∙ ap (gathered c.args.clause.now) (sym (chosen-for_each c.args.first c.args.count f (place_in c.args.blocks.now c.args.next) c.args.place)))
+
+pub add_existential-push_existential-requires-clause-room : goal.add_existential-push_existential-requires-clause-room
+add_existential-push_existential-requires-clause-room t c =
+    (let room = (can_existential c.args.first c.args.count (signed_form c.args.part.now c.args.sign) c.args.next c.args.place c.requires.can).room in omega (arith, room))
+
+pub add_existential-overflow_add-next : goal.add_existential-overflow_add-next
+add_existential-overflow_add-next t c =
+    (let room = (can_existential c.args.first c.args.count (signed_form c.args.part.now c.args.sign) c.args.next c.args.place c.requires.can).room in omega (arith, room))
+
+pub add_existential-returns-clause-kept : goal.add_existential-returns-clause-kept
+add_existential-returns-clause-kept t c =
+    popped c.args.blocks.now c.pop.new.self c.add.new.blocks (existential_block c.args.first c.args.count (signed_form c.args.part.now c.args.sign) (place_in c.args.blocks.now c.args.next)) c.pop.result
+    (c.in_ok-add.ensures.kept ∙ c.in_ok-push_existential.ensures c.args.sign) c.pop.ensures
+
+pub add_existential-add-requires : goal.add_existential-add-requires
+add_existential-add-requires t c =
+    (let f : Form = signed_form c.args.part.now c.args.sign in
+    let b : Block = existential_block c.args.first c.args.count f (place_in c.args.blocks.now c.args.next) in
+    let pushed : c.push_existential.new.blocks ≡ c.args.blocks.now ++ b ∷ [] = c.in_ok-push_existential.ensures c.args.sign in (
+      omega (arith, c.decreases),
+      (can_existential c.args.first c.args.count f c.args.next c.args.place c.requires.can, subst (λ bs. AreFresh bs (bindings c.args.part.now)) (sym pushed) (fresh_behind c.args.blocks.now b (bindings c.args.part.now) c.requires.fresh)),
+    ))
+
+pub add_existential-returns-clause-added : goal.add_existential-returns-clause-added
+add_existential-returns-clause-added t c =
+    (let f : Form = signed_form c.args.part.now c.args.sign in
+    let b : Block = existential_block c.args.first c.args.count f (place_in c.args.blocks.now c.args.next) in
+    let pushed : c.push_existential.new.blocks ≡ c.args.blocks.now ++ b ∷ [] = c.in_ok-push_existential.ensures c.args.sign in
+    c.in_ok-add.ensures.added
+    ∙ ap (λ p. gathered c.args.clause.now (chosen f p c.args.place)) (ap (λ bs. place_in bs (c.args.next + c.args.count)) pushed ∙ place-existential c.args.blocks.now c.args.first c.args.count c.args.next f)
+    ∙ ap (gathered c.args.clause.now) (sym (chosen-for_any c.args.first c.args.count f (place_in c.args.blocks.now c.args.next) c.args.place)))
+
+pub add-add_existential-requires : goal.add-add_existential-requires
+add-add_existential-requires t c = (
+  omega (arith, c.decreases, c.in-Forall.ensures.smaller),
+  (subst (λ f. CanAdd f c.args.next c.args.place) ((λ i. signed_form (c.in-Forall.ensures.shown i) (c.if-sign-5.false i)) ∙ form-not_foralls c.in-Forall.first c.in-Forall.count c.in-Forall.part.now) c.requires.can, subst (AreFresh c.args.blocks.now) (ap bindings c.in-Forall.ensures.shown ∙ bindings-foralls c.in-Forall.first c.in-Forall.count c.in-Forall.part.now) c.requires.fresh),
+)
+
+pub add-returns-else-sign-5-clause-added : goal.add-returns-else-sign-5-clause-added
+add-returns-else-sign-5-clause-added t c =
+    subst (λ f. OnOk c.add_existential.result (c.add_existential.new.clause ≡ gathered c.args.clause.now (chosen f (place_in c.args.blocks.now c.args.next) c.args.place)))
+    (sym ((λ i. signed_form (c.in-Forall.ensures.shown i) (c.if-sign-5.false i)) ∙ form-not_foralls c.in-Forall.first c.in-Forall.count c.in-Forall.part.now)) c.add_existential.ensures.added
+
+pub add-add_existential-requires-then-sign-6 : goal.add-add_existential-requires-then-sign-6
+add-add_existential-requires-then-sign-6 t c = (
+  omega (arith, c.decreases, c.in-Exists.ensures.smaller),
+  (subst (λ f. CanAdd f c.args.next c.args.place) ((λ i. signed_form (c.in-Exists.ensures.shown i) (c.if-sign-6.true i)) ∙ form-exists c.in-Exists.first c.in-Exists.count c.in-Exists.part.now) c.requires.can, subst (AreFresh c.args.blocks.now) (ap bindings c.in-Exists.ensures.shown ∙ bindings-exists c.in-Exists.first c.in-Exists.count c.in-Exists.part.now) c.requires.fresh),
+)
+
+pub add-returns-then-sign-6-clause-added : goal.add-returns-then-sign-6-clause-added
+add-returns-then-sign-6-clause-added t c =
+    subst (λ f. OnOk c.add_existential-then-sign-6.result (c.add_existential-then-sign-6.new.clause ≡ gathered c.args.clause.now (chosen f (place_in c.args.blocks.now c.args.next) c.args.place)))
+    (sym ((λ i. signed_form (c.in-Exists.ensures.shown i) (c.if-sign-6.true i)) ∙ form-exists c.in-Exists.first c.in-Exists.count c.in-Exists.part.now)) c.add_existential-then-sign-6.ensures.added
+
+pub add-add_universal-requires-else-sign-6 : goal.add-add_universal-requires-else-sign-6
+add-add_universal-requires-else-sign-6 t c = (
+  omega (arith, c.decreases, c.in-Exists.ensures.smaller),
+  (subst (λ f. CanAdd f c.args.next c.args.place) ((λ i. signed_form (c.in-Exists.ensures.shown i) (c.if-sign-6.false i)) ∙ form-not_exists c.in-Exists.first c.in-Exists.count c.in-Exists.part.now) c.requires.can, subst (AreFresh c.args.blocks.now) (ap bindings c.in-Exists.ensures.shown ∙ bindings-exists c.in-Exists.first c.in-Exists.count c.in-Exists.part.now) c.requires.fresh),
+)
+
+pub add-returns-else-sign-6-clause-added : goal.add-returns-else-sign-6-clause-added
+add-returns-else-sign-6-clause-added t c =
+    subst (λ f. OnOk c.add_universal-else-sign-6.result (c.add_universal-else-sign-6.new.clause ≡ gathered c.args.clause.now (chosen f (place_in c.args.blocks.now c.args.next) c.args.place)))
+    (sym ((λ i. signed_form (c.in-Exists.ensures.shown i) (c.if-sign-6.false i)) ∙ form-not_exists c.in-Exists.first c.in-Exists.count c.in-Exists.part.now)) c.add_universal-else-sign-6.ensures.added
+
+pub add-add_in_one-requires : goal.add-add_in_one-requires
+add-add_in_one-requires t c = (
+  omega (arith, c.decreases, c.in-And.ensures.smaller),
+  (subst (λ f. CanAdd f c.args.next c.args.place) ((λ i. signed_form (c.in-And.ensures.shown i) (c.if-sign-2.true i)) ∙ form-And c.in-And.parts.now true) c.requires.can, subst (AreFresh c.args.blocks.now) (ap bindings c.in-And.ensures.shown ∙ bindings-And c.in-And.parts.now) c.requires.fresh),
+)
+
+pub add-returns-then-sign-2-clause-added : goal.add-returns-then-sign-2-clause-added
+add-returns-then-sign-2-clause-added t c =
+    subst (λ f. OnOk c.add_in_one.result (c.add_in_one.new.clause ≡ gathered c.args.clause.now (chosen f (place_in c.args.blocks.now c.args.next) c.args.place)))
+    (sym ((λ i. signed_form (c.in-And.ensures.shown i) (c.if-sign-2.true i)) ∙ form-And c.in-And.parts.now true)) c.add_in_one.ensures.added
+
+pub add-add_in_one-requires-else-sign-3 : goal.add-add_in_one-requires-else-sign-3
+add-add_in_one-requires-else-sign-3 t c = (
+  omega (arith, c.decreases, c.in-Or.ensures.smaller),
+  (subst (λ f. CanAdd f c.args.next c.args.place) ((λ i. signed_form (c.in-Or.ensures.shown i) (c.if-sign-3.false i)) ∙ form-Or c.in-Or.parts.now false) c.requires.can, subst (AreFresh c.args.blocks.now) (ap bindings c.in-Or.ensures.shown ∙ bindings-Or c.in-Or.parts.now) c.requires.fresh),
+)
+
+pub add-returns-else-sign-3-clause-added : goal.add-returns-else-sign-3-clause-added
+add-returns-else-sign-3-clause-added t c =
+    subst (λ f. OnOk c.add_in_one-else-sign-3.result (c.add_in_one-else-sign-3.new.clause ≡ gathered c.args.clause.now (chosen f (place_in c.args.blocks.now c.args.next) c.args.place)))
+    (sym ((λ i. signed_form (c.in-Or.ensures.shown i) (c.if-sign-3.false i)) ∙ form-Or c.in-Or.parts.now false)) c.add_in_one-else-sign-3.ensures.added
+
+pub add_in_one-loop-part-init : goal.add_in_one-loop-part-init
+add_in_one-loop-part-init t c = record {
+  can = can_find (forms_of c.args.sign c.args.parts.now) c.args.next c.args.place c.requires.can;
+  same = refl;
+  kept = refl;
+  as_before = refl;
+}
+
+pub add_in_one-add-requires : goal.add_in_one-add-requires
+add_in_one-add-requires t c =
+    (let counted = ap (λ x. x.clauses) c.count-count.ensures in
+    let below : c.loop-part.place < clause_count (signed_form c.part-item.result c.args.sign) = omega (arith, counted, c.if-place-count.true) in
+    let small = element_most c.args.parts.now c.loop-part.part-index c.part-item.result c.loop-part-test.true c.part-item.is in (
+      omega (arith, c.decreases, small),
+      (
+        next_found c.args.sign c.args.parts.now c.loop-part.part-index c.part-item.result c.loop-part.next c.loop-part.place c.loop-part-test.true c.part-item.is c.loop-part.invariant.can below,
+        subst (λ bs. AreFresh bs (bindings c.part-item.result)) (sym c.loop-part.invariant.kept) (fresh_part c.args.blocks.now c.args.parts.now c.loop-part.part-index c.part-item.result c.loop-part-test.true c.part-item.is c.requires.fresh),
+      ),
+    ))
+
+pub add_in_one-returns-then-place-count-clause-added : goal.add_in_one-returns-then-place-count-clause-added
+add_in_one-returns-then-place-count-clause-added t c =
+    (let f : Form = signed_form c.part-item.result c.args.sign in
+    let fs = forms_of c.args.sign c.args.parts.now in
+    let counted = ap (λ x. x.clauses) c.count-count.ensures in
+    let below : c.loop-part.place < clause_count f = omega (arith, counted, c.if-place-count.true) in
+    let picked = here c.args.sign c.args.parts.now c.loop-part.part-index c.part-item.result (place_in c.args.blocks.now c.loop-part.next) c.loop-part.place c.loop-part-test.true c.part-item.is below in
+    let all = all_chosen fs (place_in c.args.blocks.now c.args.next) c.args.place c.requires.can.within in
+    let list = ap (λ bs. chosen f (place_in bs c.loop-part.next) c.loop-part.place) c.loop-part.invariant.kept ∙ sym picked ∙ c.loop-part.invariant.same ∙ sym all in
+    subst (λ made. OnOk c.add.result (c.add.new.clause ≡ made)) (λ i. gathered (c.loop-part.invariant.as_before i) (list i)) c.add.ensures.added)
+
+pub add-add_in_each-requires : goal.add-add_in_each-requires
+add-add_in_each-requires t c =
+    (let e = (λ i. signed_form (c.in-And.ensures.shown i) (c.if-sign-2.false i)) ∙ form-And c.in-And.parts.now false in (
+      omega (arith, c.decreases, c.in-And.ensures.smaller),
+      (
+        subst (λ f. CanAdd f c.args.next c.args.place) e c.requires.can,
+        (ap (λ x. x.clauses) c.count-rest.ensures ∙ exact_clauses (signed_form c.args.formula.now c.args.sign) c.requires.can.few ∙ ap clause_count e, subst (AreFresh c.args.blocks.now) (ap bindings c.in-And.ensures.shown ∙ bindings-And c.in-And.parts.now) c.requires.fresh),
+      ),
+    ))
+
+pub add-add_in_each-requires-then-sign-3 : goal.add-add_in_each-requires-then-sign-3
+add-add_in_each-requires-then-sign-3 t c =
+    (let e = (λ i. signed_form (c.in-Or.ensures.shown i) (c.if-sign-3.true i)) ∙ form-Or c.in-Or.parts.now true in (
+      omega (arith, c.decreases, c.in-Or.ensures.smaller),
+      (
+        subst (λ f. CanAdd f c.args.next c.args.place) e c.requires.can,
+        (ap (λ x. x.clauses) c.count-rest-then-sign-3.ensures ∙ exact_clauses (signed_form c.args.formula.now c.args.sign) c.requires.can.few ∙ ap clause_count e, subst (AreFresh c.args.blocks.now) (ap bindings c.in-Or.ensures.shown ∙ bindings-Or c.in-Or.parts.now) c.requires.fresh),
+      ),
+    ))
+
+pub add-returns-else-sign-2-clause-added : goal.add-returns-else-sign-2-clause-added
+add-returns-else-sign-2-clause-added t c =
+    subst (λ f. OnOk c.add_in_each.result (c.add_in_each.new.clause ≡ gathered c.args.clause.now (chosen f (place_in c.args.blocks.now c.args.next) c.args.place)))
+    (sym ((λ i. signed_form (c.in-And.ensures.shown i) (c.if-sign-2.false i)) ∙ form-And c.in-And.parts.now false)) c.add_in_each.ensures.added
+
+pub add-returns-then-sign-3-clause-added : goal.add-returns-then-sign-3-clause-added
+add-returns-then-sign-3-clause-added t c =
+    subst (λ f. OnOk c.add_in_each-then-sign-3.result (c.add_in_each-then-sign-3.new.clause ≡ gathered c.args.clause.now (chosen f (place_in c.args.blocks.now c.args.next) c.args.place)))
+    (sym ((λ i. signed_form (c.in-Or.ensures.shown i) (c.if-sign-3.true i)) ∙ form-Or c.in-Or.parts.now true)) c.add_in_each-then-sign-3.ensures.added
+
+pub add_in_each-loop-part-init : goal.add_in_each-loop-part-init
+add_in_each-loop-part-init t c = record {
+  can = can_take (forms_of c.args.sign c.args.parts.now) c.args.next c.args.place c.args.rest c.requires.can c.requires.exact;
+  made = refl;
+  kept = refl;
+}
+
+pub add_in_each-nonzero_div-place : goal.add_in_each-nonzero_div-place
+add_in_each-nonzero_div-place t c =
+    (let f : Form = signed_form c.part-item.result c.args.sign in
+    let taken = next_taken c.args.sign c.args.parts.now c.loop-part.part-index c.part-item.result c.loop-part.next c.loop-part.place c.loop-part.rest c.loop-part-test.true c.part-item.is c.loop-part.invariant.can in
+    let rows = ap (λ x. x.clauses) c.count-count.ensures ∙ exact_clauses f taken.few in
+    subst (λ n. 0 < n) (sym (ap (λ n. c.loop-part.rest / n) rows ∙ taken.divided)) taken.left)
+
+pub add_in_each-nonzero_rem-place : goal.add_in_each-nonzero_rem-place
+add_in_each-nonzero_rem-place t c =
+    (let f : Form = signed_form c.part-item.result c.args.sign in
+    let taken = next_taken c.args.sign c.args.parts.now c.loop-part.part-index c.part-item.result c.loop-part.next c.loop-part.place c.loop-part.rest c.loop-part-test.true c.part-item.is c.loop-part.invariant.can in
+    let rows = ap (λ x. x.clauses) c.count-count.ensures ∙ exact_clauses f taken.few in
+    subst (λ n. 0 < n) (sym (ap (λ n. c.loop-part.rest / n) rows ∙ taken.divided)) taken.left)
+
+pub add_in_each-add-requires : goal.add_in_each-add-requires
+add_in_each-add-requires t c =
+    (let f : Form = signed_form c.part-item.result c.args.sign in
+    let taken = next_taken c.args.sign c.args.parts.now c.loop-part.part-index c.part-item.result c.loop-part.next c.loop-part.place c.loop-part.rest c.loop-part-test.true c.part-item.is c.loop-part.invariant.can in
+    let rows = ap (λ x. x.clauses) c.count-count.ensures ∙ exact_clauses f taken.few in
+    let small = element_most c.args.parts.now c.loop-part.part-index c.part-item.result c.loop-part-test.true c.part-item.is in
+    (omega (arith, c.decreases, small), (subst (λ n. CanAdd f c.loop-part.next (c.loop-part.place / n)) (sym (ap (λ n. c.loop-part.rest / n) rows ∙ taken.divided)) taken.can, subst (λ bs. AreFresh bs (bindings c.part-item.result)) (sym c.loop-part.invariant.kept) (fresh_part c.args.blocks.now c.args.parts.now c.loop-part.part-index c.part-item.result c.loop-part-test.true c.part-item.is c.requires.fresh))))
+
+pub add_in_each-loop-part-preserved : goal.add_in_each-loop-part-preserved
+add_in_each-loop-part-preserved t c =
+    (let f : Form = signed_form c.part-item.result c.args.sign in
+    let fs : List Form = forms_of c.args.sign (drop (c.loop-part.part-index + 1) c.args.parts.now) in
+    let next : ℕ = c.loop-part.next in
+    let place : ℕ = c.loop-part.place in
+    let p : Place = place_in c.args.blocks.now next in
+    let taken = next_taken c.args.sign c.args.parts.now c.loop-part.part-index c.part-item.result next place c.loop-part.rest c.loop-part-test.true c.part-item.is c.loop-part.invariant.can in
+    let rows = ap (λ x. x.clauses) c.count-count.ensures ∙ exact_clauses f taken.few in
+    let d : c.loop-part.rest / c.count-count.result.clauses ≡ product_count fs = ap (λ n. c.loop-part.rest / n) rows ∙ taken.divided in
+    let sk : c.count-count.result.skolems ≡ existentials f = ap (λ x. x.skolems) c.count-count.ensures ∙ exact_skolems f taken.few_skolems in
+    let list = next_made c.args.sign c.args.parts.now c.loop-part.part-index c.part-item.result p place c.loop-part-test.true c.part-item.is in
+    record {
+      can = subst (λ n. CanTake fs (next + c.count-count.result.skolems) (place % n) n) (sym d) (subst (λ n. CanTake fs (next + n) (place % product_count fs) (product_count fs)) (sym sk) taken.later);
+      made =
+          ap (λ m. gathered m (chosen_in_each fs (place_in c.args.blocks.now (next + c.count-count.result.skolems)) (place % (c.loop-part.rest / c.count-count.result.clauses)))) c.in_ok-add.ensures.added
+          ∙ (λ i. gathered (gathered c.loop-part.clause (chosen f (place_in (c.loop-part.invariant.kept i) next) (place / d i))) (chosen_in_each fs (place_in c.args.blocks.now (next + sk i)) (place % d i)))
+          ∙ sym (gathered_two c.loop-part.clause (chosen f p (place / product_count fs)) (chosen_in_each fs (behind f p) (place % product_count fs)))
+          ∙ ap (gathered c.loop-part.clause) (sym list)
+          ∙ c.loop-part.invariant.made;
+      kept = c.in_ok-add.ensures.kept ∙ c.loop-part.invariant.kept;
+    })
+
+pub add_in_each-returns-clause-added : goal.add_in_each-returns-clause-added
+add_in_each-returns-clause-added t c =
+    (let fs : List Form = forms_of c.args.sign c.args.parts.now in
+    let can = can_take fs c.args.next c.args.place c.args.rest c.requires.can c.requires.exact in
+    let none = drop_past c.args.parts.now c.loop-part.part-index c.loop-part-test.false in
+    sym (ap (λ us. gathered c.loop-part.clause (chosen_in_each (forms_of c.args.sign us) (place_in c.args.blocks.now c.loop-part.next) c.loop-part.place)) none)
+    ∙ c.loop-part.invariant.made
+    ∙ ap (gathered c.args.clause.now) (sym (some_chosen fs (place_in c.args.blocks.now c.args.next) c.args.place can.within)))
