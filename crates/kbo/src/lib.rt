@@ -14,5 +14,5 @@ mod walking;
 
 pub use comparing::{compare, compare_views};
 pub use order::Order;
-pub use places::{eligible, maximal};
+pub use places::{eligible, first_unsolved, maximal};
 pub use view::View;

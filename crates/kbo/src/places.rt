@@ -79,7 +79,10 @@ fn is_solved(clause: &Clause, atom: &Atom) -> bool
     }
 }
 
-fn first_unsolved(clause: &Clause) -> Option<usize>
+/// The place of the first atom of the constraint that isn't solved, from 0; none where the constraint is solved. An atom is
+/// solved if it is `S(x)` with a variable x of the antecedent or the succedent (Weidenbach 2001, the section on sorts). It
+/// takes no memory.
+pub fn first_unsolved(clause: &Clause) -> Option<usize>
     ensures { result ≡ first_unsolved clause.now }
 {
     clause
