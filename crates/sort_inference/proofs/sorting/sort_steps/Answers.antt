@@ -1,4 +1,4 @@
-use Rattle.std.proofs.Common.{◌≡◌, subst}
+use Rattle.std.proofs.Common.{subst}
 use Rattle.spl_terms.specs.declared.clause.Part.TheVariants.{Constraint}
 use Rattle.calculus.specs.Inferences.{resolutions}
 use Rattle.superposition.specs.Appending.{Appended}
