@@ -21,7 +21,10 @@ pub enum Why {
     /// It is a tautology.
     Tautology,
     /// The clause with the number `by` subsumes it, by this substitution.
-    Subsumed { by: u32, subst: Subst },
+    Subsumed {
+        by: u32,
+        subst: Subst,
+    },
     /// Equations rewrite it, edit by edit, and the clause with the number `reduct` maps into what has stood there.
     Rewritten {
         reduct: u32,
