@@ -10,9 +10,9 @@ use Rattle.formulas.specs.Trees.{foralls, exists}
 use Rattle.formulas.specs.Negations.{Form, for_all, for_some, signed_form}
 use Rattle.formulas.specs.FormLaws.{form-Forall, form-Exists}
 use Rattle.normal_form.specs.declared.scope.Block.{Block}
-use Rattle.normal_form.specs.Skolem.{Place, with_variable, with_skolem, arguments}
-use Rattle.normal_form.specs.Choices.{chosen}
-use Rattle.normal_form.specs.Blocks.{with_block, term_in, is_universal, numbers_from, scope_in, place_in, for_each, for_any, with_variables, with_skolems, universal_block, skolem_terms, existential_block}
+use Rattle.normal_form.specs.Skolem.{Place, with_variable, with_skolem, skolem_arguments}
+use Rattle.normal_form.specs.Choices.{literals_chosen}
+use Rattle.normal_form.specs.Blocks.{with_block, term_in, is_universal, numbers_from, scope_in, place_below, for_each, for_any, with_variables, with_skolems, universal_block, skolem_terms, existential_block}
 use Rattle.normal_form.proofs.Blocks.{same_arguments}
 
 pub last_block : (outer : List Block) (b : Block) (v : ℕ) → term_in (outer ++ b ∷ []) v ≡ with_block (term_in outer) b v
@@ -38,11 +38,11 @@ form-not_exists first (suc count) t = form-Exists first (exists (suc first) coun
 
 -- ---- the list at a place of a block's form is that of the part, behind the quantifiers
 
-pub chosen-for_each : (first count : ℕ) (f : Form) (p : Place) (k : ℕ) → chosen (for_each first count f) p k ≡ chosen f (with_variables first count p) k
+pub chosen-for_each : (first count : ℕ) (f : Form) (p : Place) (k : ℕ) → literals_chosen (for_each first count f) p k ≡ literals_chosen f (with_variables first count p) k
 chosen-for_each first zero f p k = refl
 chosen-for_each first (suc count) f p k = chosen-for_each (suc first) count f (with_variable first p) k
 
-pub chosen-for_any : (first count : ℕ) (f : Form) (p : Place) (k : ℕ) → chosen (for_any first count f) p k ≡ chosen f (with_skolems first count f p) k
+pub chosen-for_any : (first count : ℕ) (f : Form) (p : Place) (k : ℕ) → literals_chosen (for_any first count f) p k ≡ literals_chosen f (with_skolems first count f p) k
 chosen-for_any first zero f p k = refl
 chosen-for_any first (suc count) f p k = chosen-for_any (suc first) count f (with_skolem first (for_any first (suc count) f) p) k
 
@@ -100,14 +100,14 @@ same_place : (p q : Place) → ((v : ℕ) → p.term_of v ≡ q.term_of v) → p
 same_place p q t s n = λ i. record { term_of = λ v. t v i; scope = s i; symbols = n i }
 
 -- the place behind a universal quantifier is that of the blocks with its block
-pub place-universal : (blocks : List Block) (first count next : ℕ) → place_in (blocks ++ universal_block first count ∷ []) next ≡ with_variables first count (place_in blocks next)
+pub place-universal : (blocks : List Block) (first count next : ℕ) → place_below (blocks ++ universal_block first count ∷ []) next ≡ with_variables first count (place_below blocks next)
 place-universal blocks first count next =
-    same_place (place_in (blocks ++ universal_block first count ∷ []) next) (with_variables first count (place_in blocks next))
-    (λ v. last_block blocks (universal_block first count) v ∙ sym (variables_term first count (place_in blocks next) v))
+    same_place (place_below (blocks ++ universal_block first count ∷ []) next) (with_variables first count (place_below blocks next))
+    (λ v. last_block blocks (universal_block first count) v ∙ sym (variables_term first count (place_below blocks next) v))
     (flat_map-append (λ b. if is_universal b then numbers_from b.first b.count else []) blocks (universal_block first count ∷ [])
     ∙ ap (λ l. scope_in blocks ++ l) (append-nil (numbers_from first count))
-    ∙ sym (variables_scope first count (place_in blocks next)))
-    (sym (variables_symbols first count (place_in blocks next)))
+    ∙ sym (variables_scope first count (place_below blocks next)))
+    (sym (variables_symbols first count (place_below blocks next)))
 
 -- ---- an existential block
 
@@ -132,7 +132,7 @@ own_term : (first v n : ℕ) (args : List ℕ) (t : Term) (b : Bool) → (v == f
 own_term first v n args t true e = let same : v ≡ first = eqb-true v first e in ap (λ (k : ℕ). skolem k args) (let f : n ≡ n + (v - first) = omega arith in f)
 own_term first v n args t false e = refl
 
-skolems_term : (first count : ℕ) (f : Form) (p : Place) (args : List ℕ) → arguments (for_any first count f) p ≡ args → (v : ℕ) → (with_skolems first count f p).term_of v ≡ (if in_block first count v then skolem (p.symbols + (v - first)) args else p.term_of v)
+skolems_term : (first count : ℕ) (f : Form) (p : Place) (args : List ℕ) → skolem_arguments (for_any first count f) p ≡ args → (v : ℕ) → (with_skolems first count f p).term_of v ≡ (if in_block first count v then skolem (p.symbols + (v - first)) args else p.term_of v)
 skolems_term first zero f p args e v = ap (λ b. if b then skolem (p.symbols + (v - first)) args else p.term_of v) (sym (in_nothing first v))
 skolems_term first (suc count) f p args e v =
     skolems_term (suc first) count f (with_skolem first (for_any first (suc count) f) p) args (same_arguments first (for_any (suc first) count f) p ∙ e) v
@@ -156,18 +156,18 @@ block_term first count next args v t =
     (λ h. ap (λ o. unwrap_or o (Var v)) (skolem_at next args count (v - first) (in_parts first count v h).1))
 
 -- the place behind an existential quantifier is that of the blocks with its block, and with its symbols
-pub place-existential : (blocks : List Block) (first count next : ℕ) (f : Form) → place_in (blocks ++ existential_block first count f (place_in blocks next) ∷ []) (next + count) ≡ with_skolems first count f (place_in blocks next)
+pub place-existential : (blocks : List Block) (first count next : ℕ) (f : Form) → place_below (blocks ++ existential_block first count f (place_below blocks next) ∷ []) (next + count) ≡ with_skolems first count f (place_below blocks next)
 place-existential blocks first zero next f =
-    let b : Block = existential_block first 0 f (place_in blocks next) in
-    same_place (place_in (blocks ++ b ∷ []) (next + 0)) (place_in blocks next)
+    let b : Block = existential_block first 0 f (place_below blocks next) in
+    same_place (place_below (blocks ++ b ∷ []) (next + 0)) (place_below blocks next)
     (λ v. last_block blocks b v ∙ ap (λ t. if t then unwrap_or (slice_get b.terms (v - first)) (Var v) else term_in blocks v) (in_nothing first v))
     (flat_map-append (λ c. if is_universal c then numbers_from c.first c.count else []) blocks (b ∷ []) ∙ append-nil (scope_in blocks))
     (let e : next + 0 ≡ next = omega arith in e)
 place-existential blocks first (suc count) next f =
-    let p : Place = place_in blocks next in
+    let p : Place = place_below blocks next in
     let b : Block = existential_block first (suc count) f p in
-    let args : List ℕ = arguments (for_any first (suc count) f) p in
-    same_place (place_in (blocks ++ b ∷ []) (next + suc count)) (with_skolems first (suc count) f p)
+    let args : List ℕ = skolem_arguments (for_any first (suc count) f) p in
+    same_place (place_below (blocks ++ b ∷ []) (next + suc count)) (with_skolems first (suc count) f p)
     (λ v. last_block blocks b v ∙ block_term first (suc count) next args v (term_in blocks v) ∙ sym (skolems_term first (suc count) f p args refl v))
     (flat_map-append (λ c. if is_universal c then numbers_from c.first c.count else []) blocks (b ∷ []) ∙ append-nil (scope_in blocks) ∙ sym (skolems_scope first (suc count) f p))
     (sym (skolems_symbols first (suc count) f p))

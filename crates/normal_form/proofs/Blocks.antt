@@ -7,7 +7,7 @@ use Rattle.spl_terms.specs.declared.term.Term.{Var}
 use Rattle.spl_terms.specs.Terms.{term_variables}
 use Rattle.spl_terms.specs.TermLaws.{term_variables-App, term_variables-Var}
 use Rattle.formulas.specs.Negations.{Form, for_some}
-use Rattle.normal_form.specs.Skolem.{is_member, without, free_variables, Place, arguments, skolem_symbol, skolem_term, with_skolem}
+use Rattle.normal_form.specs.Skolem.{is_member, all_but, free_variables, Place, skolem_arguments, skolem_symbol, skolem_term, with_skolem}
 use Rattle.normal_form.proofs.Members.{member_without, member_flat_map}
 
 -- a member of several lists is one of some list
@@ -59,18 +59,18 @@ module _ (x : ℕ) (inner : Form) (p : Place) where
   variables_after v = term_variables (after.term_of v)
 
   abbrev stands_before : ℕ → Bool
-  stands_before u = is_member u (flat_map variables_before (without x (free_variables inner)))
+  stands_before u = is_member u (flat_map variables_before (all_but x (free_variables inner)))
 
-  term_has : term_variables (skolem_term whole p) ≡ arguments whole p
-  term_has = term_variables-App (skolem_symbol p) (map Var (arguments whole p)) ∙ flat_variables (arguments whole p)
+  term_has : term_variables (skolem_term whole p) ≡ skolem_arguments whole p
+  term_has = term_variables-App (skolem_symbol p) (map Var (skolem_arguments whole p)) ∙ flat_variables (skolem_arguments whole p)
 
   at_other : (v : ℕ) → (v == x) ≡ false → variables_after v ≡ variables_before v
   at_other v e = ap (λ b. term_variables (if b then skolem_term whole p else p.term_of v)) e
 
-  at_own : (v : ℕ) → (v == x) ≡ true → variables_after v ≡ arguments whole p
+  at_own : (v : ℕ) → (v == x) ≡ true → variables_after v ≡ skolem_arguments whole p
   at_own v e = ap (λ b. term_variables (if b then skolem_term whole p else p.term_of v)) e ∙ term_has
 
-  kept_in : (v : ℕ) → (v == x) ≡ false → is_member v (free_variables inner) ≡ true → is_member v (without x (free_variables inner)) ≡ true
+  kept_in : (v : ℕ) → (v == x) ≡ false → is_member v (free_variables inner) ≡ true → is_member v (all_but x (free_variables inner)) ≡ true
   kept_in v e m = member_without v x (free_variables inner) ∙ (λ i. not (e i) && m i)
 
   forth : (u : ℕ) → is_member u (flat_map variables_after (free_variables inner)) ≡ true → stands_before u ≡ true
@@ -78,15 +78,15 @@ module _ (x : ℕ) (inner : Form) (p : Place) where
       let r = found variables_after u (free_variables inner) h in
       elim (cases_Bool (r.at == x)) [
         | inl e ↦ passes stands_before u p.scope (ap (is_member u) (sym (at_own r.at e)) ∙ r.inside)
-        | inr e ↦ member_flat_map variables_before r.at u (without x (free_variables inner)) (kept_in r.at e r.among) (ap (is_member u) (sym (at_other r.at e)) ∙ r.inside)
+        | inr e ↦ member_flat_map variables_before r.at u (all_but x (free_variables inner)) (kept_in r.at e r.among) (ap (is_member u) (sym (at_other r.at e)) ∙ r.inside)
       ]
 
   back : (u : ℕ) → stands_before u ≡ true → is_member u (flat_map variables_after (free_variables inner)) ≡ true
   back u h =
-      let r = found variables_before u (without x (free_variables inner)) h in
+      let r = found variables_before u (all_but x (free_variables inner)) h in
       let parts = and_parts (not (r.at == x)) (is_member r.at (free_variables inner)) (sym (member_without r.at x (free_variables inner)) ∙ r.among) in
       member_flat_map variables_after r.at u (free_variables inner) parts.1 (ap (is_member u) (at_other r.at (not-true (r.at == x) parts.0)) ∙ r.inside)
 
   -- behind the quantifier of x the same variables of the scope stand in the rest as in the whole
-  pub same_arguments : arguments inner after ≡ arguments whole p
+  pub same_arguments : skolem_arguments inner after ≡ skolem_arguments whole p
   same_arguments = ap (λ test. filter test p.scope) (λ i u. same_answers (is_member u (flat_map variables_after (free_variables inner))) (stands_before u) (forth u) (back u) i)

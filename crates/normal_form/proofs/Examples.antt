@@ -11,7 +11,7 @@ use Rattle.spl_terms.specs.TermLaws.{term_variables-Var, term_variables-App, rep
 use Rattle.formulas.specs.declared.tree.Tree as f
 use Rattle.formulas.specs.declared.tree.Tree.{Tree}
 use Rattle.spl_terms.specs.Clauses.{is_same, renumbered}
-use Rattle.normal_form.specs.Clausal.{Literal, clause_of}
+use Rattle.normal_form.specs.Clausal.{Literal, clause_from}
 use Rattle.normal_form.specs.NormalForm.{normal_form}
 use Rattle.formulas.specs.FormLaws.{form-True, form-False, form-Atom, form-Not, form-And, form-Or, form-Implies, form-not_Implies, form-Equiv, form-not_Equiv, form-Forall, form-Exists}
 
@@ -105,7 +105,7 @@ given = record { sign = true; atom = p (term 3 []) } ∷ record { sign = false; 
 same_atom : is_same (p (term 3 [])) (p (term 3 [])) ≡ true
 same_atom = simp term_eq_laws
 
-parts : clause_of given ≡ record { constraint = s (term 3 []) ∷ []; antecedent = []; succedent = p (term 3 []) ∷ [] }
+parts : clause_from given ≡ record { constraint = s (term 3 []) ∷ []; antecedent = []; succedent = p (term 3 []) ∷ [] }
 parts =
     ap (λ b. renumbered (record { constraint = s (term 3 []) ∷ []; antecedent = []; succedent = if b || false then p (term 3 []) ∷ [] else p (term 3 []) ∷ p (term 3 []) ∷ [] })) same_atom
     ∙ simp (replace-App, term_variables-App)

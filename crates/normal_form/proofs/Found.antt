@@ -15,7 +15,7 @@ use Rattle.std.proofs.lemmas.Nat.{mul-le, div-mul-add}
 use Rattle.formulas.specs.Negations.{Form, constant, both, either, signed_form}
 use Rattle.formulas.specs.Counts.{clause_count, existentials}
 use Rattle.normal_form.specs.Skolem.{Place, behind}
-use Rattle.normal_form.specs.Choices.{chosen, chosen_in_one, chosen_in_each, product_count}
+use Rattle.normal_form.specs.Choices.{literals_chosen, chosen_in_one, chosen_in_each, product_count}
 use Rattle.normal_form.specs.Walking.{CanAdd}
 use Rattle.normal_form.proofs.Walks.{count_all, skolems_all, skolems_some}
 use Rattle.normal_form.proofs.Several.{count_either}
@@ -32,11 +32,11 @@ can_this : (f : Form) (fs : List Form) (next place : ℕ) → CanFind (f ∷ fs)
 can_this f fs next place c less = let few = c.few in let room = c.room in record { within = less; few = omega arith; room = omega arith }
 
 -- where the place is below the next part's count, the list is that part's
-pub here : (sign : Bool) (ts : List Tree) (i : ℕ) (t : Tree) (p : Place) (k : ℕ) → i < length ts → t ≡ get_or ts i t → k < clause_count (signed_form t sign) → chosen_in_one (forms_of sign (drop i ts)) p k ≡ chosen (signed_form t sign) p k
+pub here : (sign : Bool) (ts : List Tree) (i : ℕ) (t : Tree) (p : Place) (k : ℕ) → i < length ts → t ≡ get_or ts i t → k < clause_count (signed_form t sign) → chosen_in_one (forms_of sign (drop i ts)) p k ≡ literals_chosen (signed_form t sign) p k
 here sign [] i t p k h e less = absurd (omega arith)
 here sign (u ∷ ts) zero t p k h e less =
     ap (λ w. chosen_in_one (forms_of sign (w ∷ ts)) p k) (sym e)
-    ∙ ap (λ b. if b then chosen (signed_form t sign) p k else chosen_in_one (forms_of sign ts) (record p { symbols = p.symbols + existentials (signed_form t sign) }) (k - clause_count (signed_form t sign))) (lt-ltb k (clause_count (signed_form t sign)) less)
+    ∙ ap (λ b. if b then literals_chosen (signed_form t sign) p k else chosen_in_one (forms_of sign ts) (record p { symbols = p.symbols + existentials (signed_form t sign) }) (k - clause_count (signed_form t sign))) (lt-ltb k (clause_count (signed_form t sign)) less)
 here sign (u ∷ ts) (suc i) t p k h e less = here sign ts i t p k (omega arith) e less
 
 -- ---- a list of each part
@@ -91,7 +91,7 @@ next_taken sign ts i t next place rest h e can =
     taken (signed_form t sign) (forms_of sign (drop (i + 1) ts)) next place rest (subst (λ fs. CanTake fs next place rest) (left_parts sign ts i t h e) can)
 
 pub next_made : (sign : Bool) (ts : List Tree) (i : ℕ) (t : Tree) (p : Place) (k : ℕ) → i < length ts → t ≡ get_or ts i t →
-    chosen_in_each (forms_of sign (drop i ts)) p k ≡ chosen (signed_form t sign) p (k / product_count (forms_of sign (drop (i + 1) ts))) ++ chosen_in_each (forms_of sign (drop (i + 1) ts)) (behind (signed_form t sign) p) (k % product_count (forms_of sign (drop (i + 1) ts)))
+    chosen_in_each (forms_of sign (drop i ts)) p k ≡ literals_chosen (signed_form t sign) p (k / product_count (forms_of sign (drop (i + 1) ts))) ++ chosen_in_each (forms_of sign (drop (i + 1) ts)) (behind (signed_form t sign) p) (k % product_count (forms_of sign (drop (i + 1) ts)))
 next_made sign ts i t p k h e = ap (λ fs. chosen_in_each fs p k) (left_parts sign ts i t h e)
 
 pub can_take : (fs : List Form) (next place rest : ℕ) → CanAdd (fold either (constant false) fs) next place → rest ≡ clause_count (fold either (constant false) fs) → CanTake fs next place rest

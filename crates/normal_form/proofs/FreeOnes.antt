@@ -12,7 +12,7 @@ use Rattle.formulas.specs.declared.tree.Tree.TheOpen as layer
 use Rattle.formulas.specs.declared.tree.Tree.TheViews.{roll-Tree}
 use Rattle.formulas.specs.declared.tree.Tree.TheFolds.{map-Tree, fold-roll-Tree, ind-Tree}
 use Rattle.formulas.specs.Negations.{Form, signed_form}
-use Rattle.normal_form.specs.Skolem.{is_member, free_variables, Place, arguments}
+use Rattle.normal_form.specs.Skolem.{is_member, free_variables, Place, skolem_arguments}
 use Rattle.normal_form.specs.Law.{free_step, is_free, bindings_step, bindings}
 use Rattle.normal_form.specs.Occurring.{occurring_step, occurring}
 use Rattle.normal_form.proofs.Members.{member_flat_map}
@@ -162,7 +162,7 @@ module _ (t : Tree) (sign : Bool) (p : Place) (own : (v : ℕ) → is_member v (
       member_flat_map variables_at r.at u (occurring t) (agrees u r.at scope r.inside ∙ r.among) r.inside
 
   -- the arguments at a place are the variables of the scope that stand in the terms of what occurs
-  pub arguments-occurring : filter (λ u. is_member u (flat_map variables_at (occurring t))) p.scope ≡ arguments part p
+  pub arguments-occurring : filter (λ u. is_member u (flat_map variables_at (occurring t))) p.scope ≡ skolem_arguments part p
   arguments-occurring =
       filter_same (λ u. is_member u (flat_map variables_at (occurring t))) (λ u. is_member u (flat_map variables_at (free_variables part))) p.scope
       (λ u scope. same_answers (is_member u (flat_map variables_at (occurring t))) (is_member u (flat_map variables_at (free_variables part))) (forth u scope) (back u scope))

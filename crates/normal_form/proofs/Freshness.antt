@@ -15,10 +15,10 @@ use Rattle.formulas.specs.declared.tree.Tree.TheFolds.{map-Tree, fold-roll-Tree}
 use Rattle.formulas.specs.Trees.{foralls, exists}
 use Rattle.formulas.specs.Negations.{signed_form}
 use Rattle.normal_form.specs.declared.scope.Block.{Block}
-use Rattle.normal_form.specs.Skolem.{is_member, arguments}
-use Rattle.normal_form.specs.Law.{bindings_step, bindings, are_different}
+use Rattle.normal_form.specs.Skolem.{is_member, skolem_arguments}
+use Rattle.normal_form.specs.Law.{bindings_step, bindings, all_distinct}
 use Rattle.normal_form.specs.Occurring.{occurring}
-use Rattle.normal_form.specs.Blocks.{has_variable, with_block, term_in, is_universal, numbers_from, scope_in, place_in, for_any, skolem_terms}
+use Rattle.normal_form.specs.Blocks.{has_variable, with_block, term_in, is_universal, numbers_from, scope_in, place_below, for_any, skolem_terms}
 use Rattle.normal_form.specs.Walking.{AreFresh, arguments_in}
 use Rattle.normal_form.proofs.Members.{member_left, member_right}
 use Rattle.normal_form.proofs.Separate.{Disjoint, parted, member_cases}
@@ -77,7 +77,7 @@ fresh_part blocks [] i t h e f = absurd (omega arith)
 fresh_part blocks (u ∷ ts) zero t h e f = subst (λ w. AreFresh blocks (bindings w)) (sym e) (fresh_left blocks (bindings u) (flat_map bindings ts) f)
 fresh_part blocks (u ∷ ts) (suc i) t h e f = fresh_part blocks ts i t (omega arith) e (fresh_right blocks (bindings u) (flat_map bindings ts) f)
 
-pub fresh_outside : (vs : List ℕ) → are_different vs ≡ true → AreFresh [] vs
+pub fresh_outside : (vs : List ℕ) → all_distinct vs ≡ true → AreFresh [] vs
 fresh_outside vs d = record { outside = λ v e. refl; different = d }
 
 -- ---- the numbers of a block
@@ -156,15 +156,15 @@ module _ (blocks : List Block) (vs : List ℕ) (f : AreFresh blocks vs) where
 -- ---- the arguments of a block's Skolem terms, from what occurs in the part
 
 module _ (blocks : List Block) (next first count : ℕ) (t : Tree) (f : AreFresh blocks (numbers_from first count ++ bindings t)) where
-  by_tree : (whole : Tree) (sign : Bool) → bindings whole ≡ numbers_from first count ++ bindings t → occurring whole ≡ occurring t → arguments_in blocks t ≡ arguments (signed_form whole sign) (place_in blocks next)
+  by_tree : (whole : Tree) (sign : Bool) → bindings whole ≡ numbers_from first count ++ bindings t → occurring whole ≡ occurring t → arguments_in blocks t ≡ skolem_arguments (signed_form whole sign) (place_below blocks next)
   by_tree whole sign b o =
       let g : AreFresh blocks (bindings whole) = subst (AreFresh blocks) (sym b) f in
       ap (λ vs. filter (λ u. is_member u (flat_map (λ v. term_variables (term_in blocks v)) vs)) (scope_in blocks)) (sym o)
-      ∙ arguments-occurring whole sign (place_in blocks next) (own_terms blocks (bindings whole) g) (out_of_scope blocks (bindings whole) g)
+      ∙ arguments-occurring whole sign (place_below blocks next) (own_terms blocks (bindings whole) g) (out_of_scope blocks (bindings whole) g)
 
-  pub block_arguments : (sign : Bool) → arguments_in blocks t ≡ arguments (for_any first count (signed_form t sign)) (place_in blocks next)
-  block_arguments true = by_tree (exists first count t) true (bindings-exists first count t) (occurring-exists first count t) ∙ ap (λ g. arguments g (place_in blocks next)) (form-exists first count t)
-  block_arguments false = by_tree (foralls first count t) false (bindings-foralls first count t) (occurring-foralls first count t) ∙ ap (λ g. arguments g (place_in blocks next)) (form-not_foralls first count t)
+  pub block_arguments : (sign : Bool) → arguments_in blocks t ≡ skolem_arguments (for_any first count (signed_form t sign)) (place_below blocks next)
+  block_arguments true = by_tree (exists first count t) true (bindings-exists first count t) (occurring-exists first count t) ∙ ap (λ g. skolem_arguments g (place_below blocks next)) (form-exists first count t)
+  block_arguments false = by_tree (foralls first count t) false (bindings-foralls first count t) (occurring-foralls first count t) ∙ ap (λ g. skolem_arguments g (place_below blocks next)) (form-not_foralls first count t)
 
 -- ---- one more of a block's variables
 

@@ -9,7 +9,7 @@ use Rattle.spl_terms.specs.declared.clause.Clause.{Clause}
 use Rattle.spl_terms.specs.Clauses.{is_of_sort, is_same, added, part_of, with_atom, clause_symbols, distinct, at_lists, renumbered, in_order}
 use Rattle.spl_terms.specs.InOrderLaws.{distinct-different, different-distinct}
 use Rattle.spl_terms.specs.SizeLaws.{with_atom-repeated, with_atom-new}
-use Rattle.normal_form.specs.Clausal.{Literal, stands_right, stands_left, stands_in_constraint, atoms_where, clause_of}
+use Rattle.normal_form.specs.Clausal.{Literal, stands_right, stands_left, stands_in_constraint, atoms_where, clause_from}
 use Rattle.normal_form.specs.Gathering.{part_for, with_literal, no_literals, gathered}
 
 -- the atoms of a part, with those of the literals added
@@ -34,7 +34,7 @@ gathered_parts c (l ∷ ls) = gathered_parts (with_literal c l) ls ∙ one l.sig
     one false false = refl
 
 -- once the variables are numbered, it is the clause of the list
-pub clause-gathered : (ls : List Literal) → clause_of ls ≡ renumbered (gathered no_literals ls)
+pub clause-gathered : (ls : List Literal) → clause_from ls ≡ renumbered (gathered no_literals ls)
 clause-gathered ls = ap renumbered (sym (gathered_parts no_literals ls))
 
 parts_kept : (ls : List Literal) → at_lists distinct (by_parts no_literals ls) ≡ by_parts no_literals ls
@@ -46,7 +46,7 @@ parts_kept ls =
     λ i. record { constraint = x i; antecedent = y i; succedent = z i }
 
 -- and so it is once it is brought into order
-pub in_order-gathered : (ls : List Literal) → in_order (gathered no_literals ls) ≡ clause_of ls
+pub in_order-gathered : (ls : List Literal) → in_order (gathered no_literals ls) ≡ clause_from ls
 in_order-gathered ls = ap in_order (gathered_parts no_literals ls) ∙ ap renumbered (parts_kept ls)
 
 -- ---- sizes

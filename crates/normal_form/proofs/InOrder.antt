@@ -8,12 +8,12 @@ use Rattle.spl_terms.specs.declared.atom.Atom.{Atom}
 use Rattle.spl_terms.specs.declared.atom.Atom.TheVariants.{Holds, Equal}
 use Rattle.spl_terms.specs.declared.clause.Clause.{Clause}
 use Rattle.spl_terms.specs.Terms.{term_variables}
-use Rattle.spl_terms.specs.Clauses.{atom_variables, clause_variables, is_of_sort, noted, firsts, place_in, number_in, at_lists, distinct, replace_in_atom, in_order}
+use Rattle.spl_terms.specs.Clauses.{atom_variables, clause_variables, is_of_sort, noted, firsts, place_below, number_in, at_lists, distinct, replace_in_atom, in_order}
 use Rattle.spl_terms.specs.TermLaws.{Each, term_induction}
 use Rattle.spl_terms.specs.TermLaws.{term_variables-Var, term_variables-App}
 use Rattle.normal_form.specs.Skolem.{is_member}
-use Rattle.normal_form.specs.Clausal.{Literal, stands_right, stands_left, stands_in_constraint, atoms_where, clause_of}
-use Rattle.normal_form.specs.Structures.{Structure, IsAssignment, value, holds, clause_truth}
+use Rattle.normal_form.specs.Clausal.{Literal, stands_right, stands_left, stands_in_constraint, atoms_where, clause_from}
+use Rattle.normal_form.specs.Structures.{Structure, IsAssignment, value, holds_in, clause_truth}
 use Rattle.normal_form.proofs.Members.{member_left, member_right, member_self}
 use Rattle.normal_form.proofs.Values.{value-Var, value-App, replaced_holds}
 use Rattle.normal_form.proofs.Forms.{signed_truth}
@@ -49,16 +49,16 @@ shuffle false false false false a s = refl
 
 module _ {size : ℕ} (m : Structure size) where
   abbrev is_false : (ℕ → ℕ) → Atom → Bool
-  is_false g a = not (holds m g a)
+  is_false g a = not (holds_in m g a)
 
   parted_truth : (g : ℕ → ℕ) (ls : List Literal) → clause_truth m (parted ls) g ≡ list_truth m g ls
   parted_truth g [] = refl
   parted_truth g (l ∷ ls) =
       (let c = any_where (is_false g) stands_in_constraint l ls in
       let a = any_where (is_false g) stands_left l ls in
-      let s = any_where (holds m g) stands_right l ls in
+      let s = any_where (holds_in m g) stands_right l ls in
       λ i. (c i || a i) || s i)
-      ∙ shuffle l.sign (is_of_sort l.atom) (holds m g l.atom) (list_any (is_false g) (atoms_where stands_in_constraint ls)) (list_any (is_false g) (atoms_where stands_left ls)) (list_any (holds m g) (atoms_where stands_right ls))
+      ∙ shuffle l.sign (is_of_sort l.atom) (holds_in m g l.atom) (list_any (is_false g) (atoms_where stands_in_constraint ls)) (list_any (is_false g) (atoms_where stands_left ls)) (list_any (holds_in m g) (atoms_where stands_right ls))
       ∙ ap (λ b. literal_truth m g l || b) (parted_truth g ls)
 
   -- ---- repeated atoms
@@ -72,14 +72,14 @@ module _ {size : ℕ} (m : Structure size) where
       by_tests false true e f = absurd (false≢true (sym e ∙ eq-eqb a b (sym (eqb-true b a f))))
       by_tests false false e f = refl
 
-  holds-flipped : (g : ℕ → ℕ) (a : Atom) → holds m g a ≡ holds m g (flipped a)
+  holds-flipped : (g : ℕ → ℕ) (a : Atom) → holds_in m g a ≡ holds_in m g (flipped a)
   holds-flipped g (Holds p ts) = refl
   holds-flipped g (Equal s t) = turned (value m g s) (value m g t)
 
-  blind : (g : ℕ → ℕ) (a : Atom) → Blind (holds m g) a
+  blind : (g : ℕ → ℕ) (a : Atom) → Blind (holds_in m g) a
   blind g a b same = elim (same_cases a b same) [
-    | inl e ↦ ap (holds m g) e
-    | inr e ↦ holds-flipped g a ∙ ap (holds m g) e
+    | inl e ↦ ap (holds_in m g) e
+    | inr e ↦ holds-flipped g a ∙ ap (holds_in m g) e
   ]
 
   all_blind : (p : Atom → Bool) → ((a : Atom) → Blind p a) → (xs : List Atom) → AllByRecursion (Blind p) xs
@@ -91,7 +91,7 @@ module _ {size : ℕ} (m : Structure size) where
       let no : (xs : List Atom) → list_any (is_false g) (distinct xs) ≡ list_any (is_false g) xs = λ xs. distinct-any (is_false g) xs (all_blind (is_false g) (λ a b s. ap not (blind g a b s)) xs) in
       let p = no c.constraint in
       let q = no c.antecedent in
-      let r = distinct-any (holds m g) c.succedent (all_blind (holds m g) (blind g) c.succedent) in
+      let r = distinct-any (holds_in m g) c.succedent (all_blind (holds_in m g) (blind g) c.succedent) in
       λ i. (p i || q i) || r i
 
   -- ---- other variables
@@ -103,11 +103,11 @@ module _ {size : ℕ} (m : Structure size) where
   -- a clause whose variables are renamed is as true as the clause under the assignment that follows the names
   renamed_truth : (g : ℕ → ℕ) (n : ℕ → ℕ) (c : Clause) → clause_truth m (at_lists (map (replace_in_atom (λ v. Var (n v)))) c) g ≡ clause_truth m c (λ v. g (n v))
   renamed_truth g n c =
-      let follows : (a : Atom) → holds m g (replace_in_atom (λ v. Var (n v)) a) ≡ holds m (λ v. g (n v)) a =
-      λ a. replaced_holds m g (λ v. Var (n v)) a ∙ ap (λ h. holds m h a) (λ i v. value-Var m g (n v) i) in
+      let follows : (a : Atom) → holds_in m g (replace_in_atom (λ v. Var (n v)) a) ≡ holds_in m (λ v. g (n v)) a =
+      λ a. replaced_holds m g (λ v. Var (n v)) a ∙ ap (λ h. holds_in m h a) (λ i v. value-Var m g (n v) i) in
       let p = any_mapped (is_false g) (is_false (λ v. g (n v))) (replace_in_atom (λ v. Var (n v))) (λ a. ap not (follows a)) c.constraint in
       let q = any_mapped (is_false g) (is_false (λ v. g (n v))) (replace_in_atom (λ v. Var (n v))) (λ a. ap not (follows a)) c.antecedent in
-      let r = any_mapped (holds m g) (holds m (λ v. g (n v))) (replace_in_atom (λ v. Var (n v))) follows c.succedent in
+      let r = any_mapped (holds_in m g) (holds_in m (λ v. g (n v))) (replace_in_atom (λ v. Var (n v))) follows c.succedent in
       λ i. (p i || q i) || r i
 
   -- ---- the truth of a clause depends on its variables
@@ -139,14 +139,14 @@ module _ {size : ℕ} (m : Structure size) where
         let rest = all_agree ts (λ v e. agree v (member_right v (term_variables t) (flat_map term_variables ts) e)) in
         λ i. here i ∷ rest i
 
-    holds_agrees : (a : Atom) → Agree (atom_variables a) → holds m g a ≡ holds m h a
+    holds_agrees : (a : Atom) → Agree (atom_variables a) → holds_in m g a ≡ holds_in m h a
     holds_agrees (Holds p ts) agree = ap (m.predicate p) (all_agree ts agree)
     holds_agrees (Equal s t) agree =
         let left = value_agrees s (λ v e. agree v (member_left v (term_variables s) (flat_map term_variables (t ∷ [])) e)) in
         let right = value_agrees t (λ v e. agree v (member_right v (term_variables s) (flat_map term_variables (t ∷ [])) (member_left v (term_variables t) [] e))) in
         λ i. left i == right i
 
-    any_agrees : (xs : List Atom) → Agree (flat_map atom_variables xs) → list_any (holds m g) xs ≡ list_any (holds m h) xs
+    any_agrees : (xs : List Atom) → Agree (flat_map atom_variables xs) → list_any (holds_in m g) xs ≡ list_any (holds_in m h) xs
     any_agrees [] agree = refl
     any_agrees (x ∷ xs) agree =
         let here = holds_agrees x (λ v e. agree v (member_left v (atom_variables x) (flat_map atom_variables xs) e)) in
@@ -200,7 +200,7 @@ fold_has w (v ∷ vs) order h = elim (or_cases (w == v) (is_member w vs) h) [
   | inr k ↦ fold_has w vs (noted order v) k
 ]
 
-placed : (v : ℕ) (xs : List ℕ) → is_member v xs ≡ true → get_or xs (place_in xs v) 0 ≡ v
+placed : (v : ℕ) (xs : List ℕ) → is_member v xs ≡ true → get_or xs (place_below xs v) 0 ≡ v
 placed v [] h = absurd (false≢true h)
 placed v (x ∷ xs) h = at_test (x == v) refl (placed v xs)
   where
@@ -210,10 +210,10 @@ placed v (x ∷ xs) h = at_test (x == v) refl (placed v xs)
       | inr k ↦ k
     ]
 
-    at_test : (b : Bool) → (x == v) ≡ b → (is_member v xs ≡ true → get_or xs (place_in xs v) 0 ≡ v) → get_or (x ∷ xs) (if not b then 1 + place_in xs v else 0) 0 ≡ v
+    at_test : (b : Bool) → (x == v) ≡ b → (is_member v xs ≡ true → get_or xs (place_below xs v) 0 ≡ v) → get_or (x ∷ xs) (if not b then 1 + place_below xs v else 0) 0 ≡ v
     at_test true e again = eqb-true x v e
     at_test false e again =
-        let next : 1 + place_in xs v ≡ suc (place_in xs v) = omega arith in
+        let next : 1 + place_below xs v ≡ suc (place_below xs v) = omega arith in
         ap (λ (j : ℕ). get_or (x ∷ xs) j 0) next ∙ again (later e)
 
 -- ---- clauses in order
@@ -226,13 +226,13 @@ module _ {size : ℕ} (m : Structure size) where
   in_order_truth c g = renamed_truth m g (number_in (at_lists distinct c)) (at_lists distinct c)
 
   -- a list that is true under each assignment gives a clause that is
-  pub clause_from_list : (ls : List Literal) → ((g : ℕ → ℕ) → IsAssignment size g → list_truth m g ls ≡ true) → IsTrueClause (clause_of ls)
+  pub clause_from_list : (ls : List Literal) → ((g : ℕ → ℕ) → IsAssignment size g → list_truth m g ls ≡ true) → IsTrueClause (clause_from ls)
   clause_from_list ls h g is =
       let n : ℕ → ℕ = λ v. g (number_in (at_lists distinct (parted ls)) v) in
       in_order_truth (parted ls) g ∙ distinct_truth m n (parted ls) ∙ parted_truth m n ls ∙ h n (λ v. is (number_in (at_lists distinct (parted ls)) v))
 
   -- and a clause that is true under each assignment comes from a list that is
-  pub list_from_clause : (ls : List Literal) → IsTrueClause (clause_of ls) → (g : ℕ → ℕ) → IsAssignment size g → list_truth m g ls ≡ true
+  pub list_from_clause : (ls : List Literal) → IsTrueClause (clause_from ls) → (g : ℕ → ℕ) → IsAssignment size g → list_truth m g ls ≡ true
   list_from_clause ls h g is =
       let kept : Clause = at_lists distinct (parted ls) in
       let order : List ℕ = firsts (clause_variables kept) in

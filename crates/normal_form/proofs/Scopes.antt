@@ -6,7 +6,7 @@ use Rattle.spl_terms.specs.declared.term.Term.{Term, Var}
 use Rattle.spl_terms.specs.Terms.{term_variables}
 use Rattle.spl_terms.specs.TermLaws.{term_variables-Var, term_variables-App}
 use Rattle.formulas.specs.Negations.{Form, both, either, for_all, for_some}
-use Rattle.normal_form.specs.Skolem.{is_member, without, free_variables, Place, behind, set_to, with_variable, arguments, skolem_symbol, skolem_term, with_skolem}
+use Rattle.normal_form.specs.Skolem.{is_member, all_but, free_variables, Place, behind, set_to, with_variable, skolem_arguments, skolem_symbol, skolem_term, with_skolem}
 use Rattle.formulas.specs.Counts.{existentials}
 use Rattle.normal_form.specs.Law.{is_old_term}
 use Rattle.normal_form.proofs.Members.{member_left, member_right, member_self, member_filter, filter_member, member_all}
@@ -56,7 +56,7 @@ module _ (f : Form) (x : ℕ) (t : Term) (p : Place) (scope : List ℕ) (symbols
   abbrev IsPassing : Term → Type 0
   IsPassing s = (list_all (is_in scope) (term_variables s) ≡ true) × (is_old_term symbols s ≡ true)
 
-  pub within : ((v : ℕ) → is_member v p.scope ≡ true → is_member v scope ≡ true) → p.symbols ≤ symbols → IsPassing t → ArePassing p.symbols (is_in p.scope) p.term_of (without x (free_variables f)) → is_old_form p.symbols f ≡ true → Fits f (record { term_of = set_to x t p.term_of; scope = scope; symbols = symbols })
+  pub within : ((v : ℕ) → is_member v p.scope ≡ true → is_member v scope ≡ true) → p.symbols ≤ symbols → IsPassing t → ArePassing p.symbols (is_in p.scope) p.term_of (all_but x (free_variables f)) → is_old_form p.symbols f ≡ true → Fits f (record { term_of = set_to x t p.term_of; scope = scope; symbols = symbols })
   within more_scope more_symbols new terms old = record {
     terms = λ v e. at_test v e (v == x) refl;
     old = older_form p.symbols symbols more_symbols f old;
@@ -82,16 +82,16 @@ old_variables : (k : ℕ) (vs : List ℕ) → list_all (is_old_term k) (map Var 
 old_variables k [] = refl
 old_variables k (v ∷ vs) = and_from (is_old_term k (Var v)) (list_all (is_old_term k) (map Var vs)) (old-Var k v) (old_variables k vs)
 
-arguments_in : (f : Form) (p : Place) → list_all (is_in p.scope) (arguments f p) ≡ true
+arguments_in : (f : Form) (p : Place) → list_all (is_in p.scope) (skolem_arguments f p) ≡ true
 arguments_in f p =
-    member_all (is_in p.scope) (arguments f p)
+    member_all (is_in p.scope) (skolem_arguments f p)
     (λ v e. filter_member (λ u. is_member u (flat_map (λ w. term_variables (p.term_of w)) (free_variables f))) v p.scope e)
 
 pub skolem_fits : (y : ℕ) (f : Form) (p : Place) → Fits (for_some y f) p → Fits f (with_skolem y (for_some y f) p)
 skolem_fits y f p fits =
     let whole : Form = for_some y f in
     within f y (skolem_term whole p) p p.scope (p.symbols + 1) (λ v e. e) (omega arith) (
-      ap (list_all (is_in p.scope)) (term_variables-App (skolem_symbol p) (map Var (arguments whole p)) ∙ flat_variables (arguments whole p)) ∙ arguments_in whole p,
-      old_from (p.symbols + 1) (skolem_symbol p) (map Var (arguments whole p)) (omega arith) (old_variables (p.symbols + 1) (arguments whole p)),
+      ap (list_all (is_in p.scope)) (term_variables-App (skolem_symbol p) (map Var (skolem_arguments whole p)) ∙ flat_variables (skolem_arguments whole p)) ∙ arguments_in whole p,
+      old_from (p.symbols + 1) (skolem_symbol p) (map Var (skolem_arguments whole p)) (omega arith) (old_variables (p.symbols + 1) (skolem_arguments whole p)),
     )
     fits.terms fits.old

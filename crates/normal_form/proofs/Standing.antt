@@ -8,10 +8,10 @@ use Rattle.spl_terms.specs.declared.term.Term.{Var}
 use Rattle.formulas.specs.declared.tree.Tree.{Tree}
 use Rattle.formulas.specs.Negations.{Form, form}
 use Rattle.normal_form.specs.Skolem.{Matrix, matrix, start}
-use Rattle.normal_form.specs.Clausal.{Literal, literal_lists, clause_of}
+use Rattle.normal_form.specs.Clausal.{Literal, literal_lists, clause_from}
 use Rattle.normal_form.specs.NormalForm.{clauses_of_form, normal_form}
-use Rattle.normal_form.specs.Structures.{Structure, IsAssignment, truth, clause_truth, AreTrue, AreTrueClauses, Extends}
-use Rattle.normal_form.specs.Law.{IsEntry, ClausesStand}
+use Rattle.normal_form.specs.Structures.{Structure, IsAssignment, truth_in, clause_truth, AreTrue, AreTrueClauses, IsExpansion}
+use Rattle.normal_form.specs.Law.{IsFormula, ClausesStand}
 use Rattle.normal_form.proofs.Values.{value-Var, valued, value_within, extends_self, extends_fewer, extends_both}
 use Rattle.normal_form.proofs.Forms.{form_truth, is_old_form, older_form, same_truth}
 use Rattle.normal_form.proofs.Truths.{form-truth, form-free, form-old}
@@ -56,25 +56,25 @@ module _ {size : ℕ} (m : Structure size) where
   and_true : (a b : Bool) → a ≡ true → b ≡ true → (a && b) ≡ true
   and_true a b p q = λ i. p i && q i
 
-  clauses_true : (lists : List (List Literal)) → AllTrue lists → AreTrueClauses m (map clause_of lists)
+  clauses_true : (lists : List (List Literal)) → AllTrue lists → AreTrueClauses m (map clause_from lists)
   clauses_true [] h c within = absurd (none c within)
   clauses_true (l ∷ lists) h c within =
-      elim (contained (λ d. (g : ℕ → ℕ) → IsAssignment size g → clause_truth m d g ≡ true) (clause_of l) c (map clause_of lists) within
+      elim (contained (λ d. (g : ℕ → ℕ) → IsAssignment size g → clause_truth m d g ≡ true) (clause_from l) c (map clause_from lists) within
       (clause_from_list m l (λ g is. and_first (list_truth m g l) (list_all (list_truth m g) lists) (h g is)))) [
         | inl later ↦ clauses_true lists (λ g is. and_second (list_truth m g l) (list_all (list_truth m g) lists) (h g is)) c later
         | inr here ↦ here
       ]
 
-  lists_true : (lists : List (List Literal)) → AreTrueClauses m (map clause_of lists) → AllTrue lists
+  lists_true : (lists : List (List Literal)) → AreTrueClauses m (map clause_from lists) → AllTrue lists
   lists_true [] h g is = refl
   lists_true (l ∷ lists) h g is =
       and_true (list_truth m g l) (list_all (list_truth m g) lists)
-      (list_from_clause m l (h (clause_of l) (head_of (clause_of l) (map clause_of lists))) g is)
-      (lists_true lists (λ c within. h c (rest_of (clause_of l) c (map clause_of lists) within)) g is)
+      (list_from_clause m l (h (clause_from l) (head_of (clause_from l) (map clause_from lists))) g is)
+      (lists_true lists (λ c within. h c (rest_of (clause_from l) c (map clause_from lists) within)) g is)
 
 -- ---- one formula
 
-module _ (next : ℕ) (f : Tree) (entry : IsEntry next f) where
+module _ (next : ℕ) (f : Tree) (entry : IsFormula next f) where
   abbrev the_form : Form
   the_form = form f
 
@@ -100,27 +100,27 @@ module _ (next : ℕ) (f : Tree) (entry : IsEntry next f) where
   pub matrix_holds : {size : ℕ} (m : Structure size) → AreTrueClauses m (clauses_of_form next the_form) → MatrixHolds m
   matrix_holds m h g is = sym (lists_truth m g the_matrix) ∙ lists_true m (literal_lists the_matrix) h g is
 
-  pub kept_matrix : {size : ℕ} (m n : Structure size) → Extends (next + existentials the_form) m n → MatrixHolds m → MatrixHolds n
+  pub kept_matrix : {size : ℕ} (m n : Structure size) → IsExpansion (next + existentials the_form) m n → MatrixHolds m → MatrixHolds n
   kept_matrix m n extends h g is =
       sym (same_matrix (is_seen [] the_form) (next + existentials the_form) m n extends g g (λ v e. refl) the_matrix (matrix_within the_form (start next) entry_fits)) ∙ h g is
 
-  pub extended_for : {size : ℕ} → 0 < size → (m : Structure size) → ((g : ℕ → ℕ) → IsAssignment size g → truth m f g ≡ true) → (n : Structure size) × Extends next m n × MatrixHolds n
+  pub extended_for : {size : ℕ} → 0 < size → (m : Structure size) → ((g : ℕ → ℕ) → IsAssignment size g → truth_in m f g ≡ true) → (n : Structure size) × IsExpansion next m n × MatrixHolds n
   extended_for positive m h =
       let s = skolemize positive the_form (start next) entry_fits m in
       (s.made, s.extends, λ g is. s.keeps g is (form-truth m f true (valued m g Var) ∙ h (valued m g Var) (λ v. value_within m g is (Var v))))
 
-  pub formula_from : {size : ℕ} (m : Structure size) → MatrixHolds m → (g : ℕ → ℕ) → IsAssignment size g → truth m f g ≡ true
-  formula_from m h g is = true_from_ne_false (truth m f g) (λ e.
+  pub formula_from : {size : ℕ} (m : Structure size) → MatrixHolds m → (g : ℕ → ℕ) → IsAssignment size g → truth_in m f g ≡ true
+  formula_from m h g is = true_from_ne_false (truth_in m f g) (λ e.
       let false_form : form_truth m the_form (valued m g Var) ≡ false = ap (form_truth m the_form) (λ i v. value-Var m g v i) ∙ form-truth m f true g ∙ e in
       let r = refute m the_form (start next) entry_fits (form-parts f entry.different true).separate (λ v e. absurd (false≢true e)) g is false_form in
       false≢true (sym r.refutes ∙ h r.against r.is))
 
   -- a formula keeps its truth where only new symbols change
-  pub kept_formula : {size : ℕ} (m n : Structure size) → Extends next m n → ((g : ℕ → ℕ) → IsAssignment size g → truth m f g ≡ true) → (g : ℕ → ℕ) → IsAssignment size g → truth n f g ≡ true
+  pub kept_formula : {size : ℕ} (m n : Structure size) → IsExpansion next m n → ((g : ℕ → ℕ) → IsAssignment size g → truth_in m f g ≡ true) → (g : ℕ → ℕ) → IsAssignment size g → truth_in n f g ≡ true
   kept_formula m n extends h g is =
       sym (form-truth n f true g) ∙ sym (same_truth next m n extends the_form g g (λ v e. refl) entry_old) ∙ form-truth m f true g ∙ h g is
 
-pub later_entry : (k l : ℕ) → k ≤ l → (f : Tree) → IsEntry k f → IsEntry l f
+pub later_entry : (k l : ℕ) → k ≤ l → (f : Tree) → IsFormula k f → IsFormula l f
 later_entry k l le f entry = record { closed = entry.closed; different = entry.different; old = sym (form-old l f true) ∙ older_form k l le (form f) (form-old k f true ∙ entry.old) }
 
 -- ---- several formulas
@@ -132,15 +132,15 @@ both_lists m as' bs h k c within = elim (Contains-append_cases as' bs c within) 
 ]
 
 abbrev AreEntries : ℕ → List Tree → Type 0
-AreEntries next fs = (f : Tree) → Contains fs f → IsEntry next f
+AreEntries next fs = (f : Tree) → Contains fs f → IsFormula next f
 
-extend_all : (next : ℕ) (fs : List Tree) → AreEntries next fs → {size : ℕ} → 0 < size → (m : Structure size) → AreTrue m fs → (n : Structure size) × Extends next m n × AreTrueClauses n (normal_form next fs)
+extend_all : (next : ℕ) (fs : List Tree) → AreEntries next fs → {size : ℕ} → 0 < size → (m : Structure size) → AreTrue m fs → (n : Structure size) × IsExpansion next m n × AreTrueClauses n (normal_form next fs)
 extend_all next [] entries positive m h = (m, extends_self next m, λ c within. absurd (none c within))
 extend_all next (f ∷ fs) entries positive m h =
     let entry = entries f (head_of f fs) in
     let after : ℕ = next + existentials (form f) in
     let one = extended_for next f entry positive m (h f (head_of f fs)) in
-    let others : (k : Tree) → Contains fs k → IsEntry next k = λ k within. entries k (rest_of f k fs within) in
+    let others : (k : Tree) → Contains fs k → IsFormula next k = λ k within. entries k (rest_of f k fs within) in
     let kept : AreTrue one.0 fs = λ k within. kept_formula next k (others k within) m one.0 one.1 (h k (rest_of f k fs within)) in
     let more = extend_all after fs (λ k within. later_entry next after (omega arith) k (others k within)) positive one.0 kept in (
       more.0,
@@ -153,9 +153,9 @@ back_all next [] entries m h f within = absurd (none f within)
 back_all next (f ∷ fs) entries {size} m h k within =
     let entry = entries f (head_of f fs) in
     let after : ℕ = next + existentials (form f) in
-    let here : (g : ℕ → ℕ) → IsAssignment size g → truth m f g ≡ true =
+    let here : (g : ℕ → ℕ) → IsAssignment size g → truth_in m f g ≡ true =
     formula_from next f entry m (matrix_holds next f entry m (λ c i. h c (Contains-append_left (clauses_of_form next (form f)) (normal_form after fs) c i))) in
-    elim (contained (λ j. (g : ℕ → ℕ) → IsAssignment size g → truth m j g ≡ true) f k fs within here) [
+    elim (contained (λ j. (g : ℕ → ℕ) → IsAssignment size g → truth_in m j g ≡ true) f k fs within here) [
       | inl later ↦ back_all after fs (λ j i. later_entry next after (omega arith) j (entries j (rest_of f j fs i))) m (λ c i. h c (Contains-append_right (clauses_of_form next (form f)) (normal_form after fs) c i)) k later
       | inr first ↦ first
     ]

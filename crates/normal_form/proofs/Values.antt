@@ -12,7 +12,7 @@ use Rattle.spl_terms.specs.Clauses.{atom_variables, replace_in_atom}
 use Rattle.spl_terms.specs.TermLaws.{Each, term_induction, fold-Var, fold-App}
 use Rattle.spl_terms.specs.TermLaws.{term_variables-Var, term_variables-App, replace-Var, replace-App}
 use Rattle.normal_form.specs.Skolem.{is_member}
-use Rattle.normal_form.specs.Structures.{Structure, IsAssignment, value_step, value, holds, Extends}
+use Rattle.normal_form.specs.Structures.{Structure, IsAssignment, value_step, value, holds_in, IsExpansion}
 use Rattle.normal_form.specs.Law.{old_term_step, is_old_term, is_old_atom}
 use Rattle.normal_form.proofs.Members.{member_left, member_right, member_self}
 
@@ -69,7 +69,7 @@ module _ (k l : ℕ) (le : k ≤ l) where
 
 -- ---- the value depends on the variables of the term, and on the symbols with smaller numbers
 
-module _ {size : ℕ} (k : ℕ) (m n : Structure size) (extends : Extends k m n) (g h : ℕ → ℕ) where
+module _ {size : ℕ} (k : ℕ) (m n : Structure size) (extends : IsExpansion k m n) (g h : ℕ → ℕ) where
   abbrev pub AgreeOn : List ℕ → Type 0
   AgreeOn vs = (v : ℕ) → is_member v vs ≡ true → g v ≡ h v
 
@@ -104,7 +104,7 @@ module _ {size : ℕ} (k : ℕ) (m n : Structure size) (extends : Extends k m n)
       let rest : map (value m g) ts ≡ map (value n h) ts = same_values ts (λ v e. agree v (member_right v (term_variables t) (flat_map term_variables ts) e)) p.1 in
       λ i. here i ∷ rest i
 
-  pub same_holds : (a : Atom) → AgreeOn (atom_variables a) → is_old_atom k a ≡ true → holds m g a ≡ holds n h a
+  pub same_holds : (a : Atom) → AgreeOn (atom_variables a) → is_old_atom k a ≡ true → holds_in m g a ≡ holds_in n h a
   same_holds (Holds p ts) agree old = ap (m.predicate p) (same_values ts agree old) ∙ sym (extends.predicates p (map (value n h) ts))
   same_holds (Equal s t) agree old =
       let p = and_parts (is_old_term k s) (is_old_term k t && true) old in
@@ -114,13 +114,13 @@ module _ {size : ℕ} (k : ℕ) (m n : Structure size) (extends : Extends k m n)
       λ i. left i == right i
 
 -- a structure extends itself
-pub extends_self : {size : ℕ} (k : ℕ) (m : Structure size) → Extends k m m
+pub extends_self : {size : ℕ} (k : ℕ) (m : Structure size) → IsExpansion k m m
 extends_self k m = record { functions = λ f xs h. refl; predicates = λ p xs. refl }
 
-pub extends_fewer : {size : ℕ} (k l : ℕ) (m n : Structure size) → k ≤ l → Extends l m n → Extends k m n
+pub extends_fewer : {size : ℕ} (k l : ℕ) (m n : Structure size) → k ≤ l → IsExpansion l m n → IsExpansion k m n
 extends_fewer k l m n h e = record { functions = λ f xs less. e.functions f xs (omega arith); predicates = e.predicates }
 
-pub extends_both : {size : ℕ} (k : ℕ) (m n o : Structure size) → Extends k m n → Extends k n o → Extends k m o
+pub extends_both : {size : ℕ} (k : ℕ) (m n o : Structure size) → IsExpansion k m n → IsExpansion k n o → IsExpansion k m o
 extends_both k m n o d e = record {
   functions = λ f xs less. e.functions f xs less ∙ d.functions f xs less;
   predicates = λ p xs. e.predicates p xs ∙ d.predicates p xs;
@@ -153,7 +153,7 @@ module _ {size : ℕ} (m : Structure size) (g : ℕ → ℕ) (terms : ℕ → Te
   replaced_values [] = refl
   replaced_values (t ∷ ts) = let here = replaced_value t in let rest = replaced_values ts in λ i. here i ∷ rest i
 
-  pub replaced_holds : (a : Atom) → holds m g (replace_in_atom terms a) ≡ holds m valued a
+  pub replaced_holds : (a : Atom) → holds_in m g (replace_in_atom terms a) ≡ holds_in m valued a
   replaced_holds (Holds p ts) = ap (m.predicate p) (replaced_values ts)
   replaced_holds (Equal s t) = let left = replaced_value s in let right = replaced_value t in λ i. left i == right i
 

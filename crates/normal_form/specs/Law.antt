@@ -73,19 +73,19 @@ abbrev pub bindings : Tree → List ℕ
 bindings = fold-Tree (List ℕ) bindings_step
 
 -- whether no number stands twice in the list
-abbrev pub are_different : List ℕ → Bool
-are_different [] = true
-are_different (v ∷ vs) = not (is_member v vs) && are_different vs
+abbrev pub all_distinct : List ℕ → Bool
+all_distinct [] = true
+all_distinct (v ∷ vs) = not (is_member v vs) && all_distinct vs
 
 -- no variable is free in the formula, no two bindings have one number, and its functions have smaller numbers than the Skolem
 -- symbols
-pub record IsEntry (next : ℕ) (f : Tree) : Type 0 where
+pub record IsFormula (next : ℕ) (f : Tree) : Type 0 where
   pub closed : (v : ℕ) → is_free v f ≡ false
-  pub different : are_different (bindings f) ≡ true
+  pub different : all_distinct (bindings f) ≡ true
   pub old : is_old next f ≡ true
 
 abbrev pub ClausesStand : Type 0
-ClausesStand = (next : ℕ) (fs : List Tree) → ((f : Tree) → Contains fs f → IsEntry next f) → StandFor next (normal_form next fs) fs
+ClausesStand = (next : ℕ) (fs : List Tree) → ((f : Tree) → Contains fs f → IsFormula next f) → StandFor next (normal_form next fs) fs
 
 abbrev pub ClausesAreCounted : Type 0
 ClausesAreCounted = (next : ℕ) (f : Form) → length (clauses_of_form next f) ≡ clause_count f

@@ -2,7 +2,7 @@
 
 ghost use Rattle.std.specs.Prelude.{◌≡◌, true, Some, slice_get, IfOk};
 ghost use Rattle.formulas.specs.Negations.{signed_form};
-ghost use Rattle.normal_form.specs.Law.{bindings, are_different};
+ghost use Rattle.normal_form.specs.Law.{bindings, all_distinct};
 ghost use Rattle.normal_form.specs.NormalForm.{clauses_of_form};
 ghost use Rattle.normal_form.specs.Walking.{CanAdd};
 
@@ -25,7 +25,7 @@ pub fn clause_at(
     place: u32,
 ) -> Result<Clause, Stop>
     requires can { CanAdd (signed_form formula.now sign) next place }
-    requires different { are_different (bindings formula.now) ≡ true }
+    requires different { all_distinct (bindings formula.now) ≡ true }
     ensures { IfOk result (λ c. slice_get (clauses_of_form next (signed_form formula.now sign)) place ≡ Some c) }
 {
     let mut blocks = Items::new(alloc);

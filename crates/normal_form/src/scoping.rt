@@ -8,8 +8,8 @@ ghost use Rattle.formulas.specs.Negations.{signed_form};
 ghost use Rattle.normal_form.specs.Law.{bindings};
 ghost use Rattle.normal_form.specs.Skolem.{is_member};
 ghost use Rattle.normal_form.specs.Occurring.{occurring};
-ghost use Rattle.normal_form.specs.Blocks.{term_in, scope_in, place_in, numbers_from, skolem_terms, existential_block};
-ghost use Rattle.normal_form.specs.Walking.{AreFresh, standing_in, arguments_of, arguments_in};
+ghost use Rattle.normal_form.specs.Blocks.{term_in, scope_in, place_below, numbers_from, skolem_terms, existential_block};
+ghost use Rattle.normal_form.specs.Walking.{AreFresh, standing_in, block_arguments, arguments_in};
 
 use crate::scope::{Block, term_of};
 use crate::variables::{add_term_variables, add_variables};
@@ -65,7 +65,7 @@ fn add_listed(numbers: &[u32], number: u64, found: &mut Items<u32>) -> Result<()
 
 /// Appends the universal variables of a block that are in the list.
 fn add_arguments(block: &Block, standing: &[u32], found: &mut Items<u32>) -> Result<(), AllocError>
-    ensures { OnOk result (found.new ≡ found.old ++ arguments_of block.now standing.now) }
+    ensures { OnOk result (found.new ≡ found.old ++ block_arguments block.now standing.now) }
 {
     if !block.terms.is_empty() {
         return Ok(());
@@ -92,7 +92,7 @@ fn arguments_among(
 }
 
 /// The universal variables of the blocks, the outermost first, that stand in the part.
-fn arguments(alloc: Global, blocks: &[Block], part: &Formula) -> Result<Items<u32>, AllocError>
+fn skolem_arguments(alloc: Global, blocks: &[Block], part: &Formula) -> Result<Items<u32>, AllocError>
     ensures { IfOk result (λ found. found ≡ arguments_in blocks.now part.now) }
 {
     let standing = standing(alloc, blocks, part)?;
@@ -145,9 +145,9 @@ pub fn skolem_block(
 ) -> Result<Block, AllocError>
     requires fresh { AreFresh blocks.now (numbers_from first count ++ bindings part.now) }
     requires room { next + count ≤ 65536 }
-    ensures { IfOk result (λ b. (sign : Bool) → b ≡ existential_block first count (signed_form part.now sign) (place_in blocks.now next)) }
+    ensures { IfOk result (λ b. (sign : Bool) → b ≡ existential_block first count (signed_form part.now sign) (place_below blocks.now next)) }
 {
-    let args = arguments(alloc, blocks, part)?;
+    let args = skolem_arguments(alloc, blocks, part)?;
     let terms = skolem_terms(alloc, args.as_slice(), next, count)?;
     Ok(Block {
         first,

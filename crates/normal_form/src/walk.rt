@@ -5,7 +5,7 @@ ghost use Rattle.std.specs.Prelude.{◌≡◌, ◌∷◌, ◌++◌, [], ◌<◌,
 ghost use Rattle.formulas.specs.Negations.{signed_form, all_of, some_of};
 ghost use Rattle.formulas.specs.Counts.{count_of, clause_count};
 ghost use Rattle.normal_form.specs.declared.scope.Block.{Block};
-ghost use Rattle.normal_form.specs.Blocks.{place_in, term_in, numbers_from, for_each, for_any, universal_block, existential_block};
+ghost use Rattle.normal_form.specs.Blocks.{place_below, term_in, numbers_from, for_each, for_any, universal_block, existential_block};
 ghost use Rattle.normal_form.specs.Gathering.{with_literal};
 ghost use Rattle.spl_terms.specs.Clauses.{replace_in_atom};
 ghost use Rattle.normal_form.specs.Walking.{CanAdd, AreFresh, one_of, both_of, agreement, difference, with_chosen};
@@ -82,7 +82,7 @@ fn push_existential(
 ) -> Result<(), Stop>
     requires fresh { AreFresh blocks.now (numbers_from first count ++ bindings part.now) }
     requires room { next + count ≤ 65536 }
-    ensures { OnOk result ((sign : Bool) → blocks.new ≡ blocks.old ++ existential_block first count (signed_form part.now sign) (place_in blocks.old next) ∷ []) }
+    ensures { OnOk result ((sign : Bool) → blocks.new ≡ blocks.old ++ existential_block first count (signed_form part.now sign) (place_below blocks.old next) ∷ []) }
 {
     match skolem_block(alloc, blocks.as_slice(), first, count, part, next) {
         Ok(block) => match blocks.push(block) {

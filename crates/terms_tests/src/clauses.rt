@@ -1,11 +1,11 @@
-//! Clauses: their size and its limit, order, variants, and lists.
-use crate::makers::{Written, atoms, clause, symbol};
+//! Clauses: their size and its limit, repeated atoms, order, and variants.
+use crate::makers::{atoms, clause, symbol};
+use crate::rows::Row;
 use spl_terms::{
-    Atom, Clause, ClauseBuilder, Items, Part, PushError, Term, order_of, order_stays, same_clause,
-    symbols_of, variant,
+    Atom, Clause, ClauseBuilder, Items, Part, PushError, Term, order_of, same_clause, symbols_of,
+    variant,
 };
 use std::alloc::{AllocError, Global};
-use std::test::Fail;
 
 /// P of so many variables.
 fn wide(alloc: Global, count: usize) -> Result<Atom, AllocError> {
@@ -24,156 +24,115 @@ fn wide_clause(alloc: Global, count: usize) -> Result<Clause, AllocError> {
 }
 
 /// How many symbols a refusal names; 0 where the call succeeded.
-fn refused<T: Drop>(answer: Result<T, PushError>) -> Result<u64, PushError> {
+pub fn refused<T: Drop>(answer: Result<T, PushError>) -> Result<u64, AllocError> {
     match answer {
         Ok(_) => Ok(0),
         Err(PushError::Big { symbols }) => Ok(symbols),
-        Err(PushError::Memory) => Err(PushError::Memory),
+        Err(PushError::Memory) => Err(AllocError),
     }
 }
 
-/// What `push_atom` of P of so many variables answers to a clause of 4,096 symbols, and how many atoms there are then.
-fn pushed(alloc: Global, count: usize) -> Result<(u64, usize), Fail> {
+/// What `push_atom` of P of so many variables answers to a clause of 4,096 symbols, which then has one atom.
+fn pushed(alloc: Global, count: usize) -> Result<u64, AllocError> {
     let mut full = wide_clause(alloc, 4095)?;
     let atom = wide(alloc, count)?;
     if atom.is_of_sort() {
-        return Ok((0, 0));
+        return Err(AllocError);
     }
-    let answer = refused(full.push_atom(Part::Antecedent, atom))?;
-    Ok((answer, full.part(Part::Antecedent).len()))
+    let answer = full.push_atom(Part::Antecedent, atom);
+    let atoms = full.part(Part::Antecedent).len() as u64;
+    Ok(refused(answer)?.wrapping_mul(atoms))
 }
 
 /// What a builder's `push` of P of so many variables answers where the clause has 4,096 symbols.
-fn built_on(alloc: Global, count: usize) -> Result<u64, Fail> {
+fn built_on(alloc: Global, count: usize) -> Result<u64, AllocError> {
     let mut full = ClauseBuilder::new(alloc);
-    full.push(Part::Succedent, wide(alloc, 4095)?)?;
-    let answer = refused(full.push(Part::Succedent, wide(alloc, count)?))?;
-    Ok(answer)
+    let begun = refused(full.push(Part::Succedent, wide(alloc, 4095)?))?;
+    let more = refused(full.push(Part::Succedent, wide(alloc, count)?))?;
+    Ok(begun.wrapping_add(more))
 }
 
-#[test]
-fn clauses_keep_within_the_limit(rt: HostRuntime) -> Result<(), Fail> {
-    let alloc = rt.alloc();
-    for (count, answer) in [(4095, 0), (0, 4097), (4094, 8191), (1_500_000, 1_000_000)] {
-        assert_eq!(rt; pushed(alloc, count)?, (answer, 1), "at {count}");
-        assert_eq!(rt; built_on(alloc, count)?, answer, "at {count}");
-    }
-    for (count, symbols, answer) in [(4095, 4096, 0), (4096, 4097, 4097)] {
-        let given = wide_clause(alloc, count)?;
-        assert_eq!(rt; symbols_of(&given), symbols);
-        assert_eq!(rt; refused(given.numbered(alloc))?, answer);
-        assert_eq!(rt; refused(given.into_numbered(alloc))?, answer);
-        assert_eq!(rt;
-            symbols_of(&wide_clause(alloc, count)?.into_ordered(alloc)?),
-            symbols
-        );
-    }
-    Ok(())
+/// `push ARGUMENTS SYMBOLS`: what a clause of 4,096 symbols answers to an atom with so many arguments: how many symbols
+/// there would be, or 0 where the atom is there already.
+pub fn push(alloc: Global, row: &Row) -> Result<bool, AllocError> {
+    let count = row.number(1) as usize;
+    let wanted = row.number(2) as u64;
+    Ok(pushed(alloc, count)? == wanted && built_on(alloc, count)? == wanted)
 }
 
-/// How many atoms are left of these, where a builder and `push_atom` agree.
-fn distinct(alloc: Global, text: &[u8]) -> Result<usize, Fail> {
+/// Whether a clause has so many symbols, with and without the limit.
+fn has_symbols(alloc: Global, count: usize, symbols: u64) -> Result<bool, AllocError> {
+    let given = wide_clause(alloc, count)?;
+    let plain = symbols_of(&given) == symbols;
+    let ordered = symbols_of(&given.into_ordered(alloc)?) == symbols;
+    Ok(plain && ordered)
+}
+
+/// `number ARGUMENTS SYMBOLS ANSWER`: the symbols of a clause, and how many the calls that number its variables refuse.
+pub fn numbered(alloc: Global, row: &Row) -> Result<bool, AllocError> {
+    let count = row.number(1) as usize;
+    let wanted = row.number(3) as u64;
+    let copied = refused(wide_clause(alloc, count)?.numbered(alloc))?;
+    let moved = refused(wide_clause(alloc, count)?.into_numbered(alloc))?;
+    Ok(copied == wanted && moved == wanted && has_symbols(alloc, count, row.number(2) as u64)?)
+}
+
+/// The clause whose succedent has these atoms, by a builder.
+fn built(alloc: Global, given: &[Atom]) -> Result<Clause, AllocError> {
     let mut builder = ClauseBuilder::new(alloc);
-    let mut plain = Clause::new(alloc);
-    for atom in atoms(alloc, text)?.as_slice() {
-        builder.push(Part::Succedent, atom.copy(alloc)?)?;
-        plain.push_atom(Part::Succedent, atom.copy(alloc)?)?;
+    for atom in given {
+        refused(builder.push(Part::Succedent, atom.copy(alloc)?))?;
     }
-    let built = builder.finish();
-    Ok(if same_clause(&built, &plain) {
-        built.succedent.len()
-    } else {
-        0
-    })
+    Ok(builder.finish())
 }
 
-#[test]
-fn repeated_atoms_are_dropped(rt: HostRuntime) -> Result<(), Fail> {
-    // more than eight atoms, of which the later ones are found by their hashes
-    let rows: [(&[u8], usize); 3] = [
-        (b"P0=01P0=10", 2),
-        (b"P0P1P2P3P4P5P6P7=01P8=10P8P0", 10),
-        (b"P0P1P2P3P4P5P6P7P8P9PaPbQaQb=ab=baPg0Pg0Q0", 17),
-    ];
-    for (text, count) in rows {
-        assert_eq!(rt; distinct(rt.alloc(), text)?, count);
+/// The clause whose succedent has these atoms, pushed one by one.
+fn plain(alloc: Global, given: &[Atom]) -> Result<Clause, AllocError> {
+    let mut made = Clause::new(alloc);
+    for atom in given {
+        refused(made.push_atom(Part::Succedent, atom.copy(alloc)?))?;
     }
-    Ok(())
+    Ok(made)
 }
 
-/// Whether both calls bring the clause into this order, whose variables had these numbers.
-fn is_brought(
-    alloc: Global,
-    given: Written,
-    wanted: Written,
-    numbers: &[u32],
-) -> Result<bool, Fail> {
-    let given = clause(alloc, given)?;
-    let wanted = clause(alloc, wanted)?;
-    let order = order_of(alloc, &given)?;
-    let copied = given.copy(alloc)?.numbered(alloc)?;
-    let moved = given.into_numbered(alloc)?;
-    Ok(order.as_slice() == numbers && same_clause(&copied, &wanted) && same_clause(&moved, &wanted))
+/// `distinct ATOMS COUNT`: how many atoms are left of these, by both calls.
+pub fn distinct(alloc: Global, row: &Row) -> Result<bool, AllocError> {
+    let given = atoms(alloc, row.text(1))?;
+    let built = built(alloc, given.as_slice())?;
+    let plain = plain(alloc, given.as_slice())?;
+    Ok(same_clause(&built, &plain) && built.succedent.len() == row.number(2) as usize)
 }
 
-#[test]
-fn clauses_are_brought_into_order(rt: HostRuntime) -> Result<(), Fail> {
-    let alloc = rt.alloc();
-    let rows: [(Written, Written, &[u32]); 4] = [
-        (
-            (b"S7", b"T37", b"T7f53=37=73"),
-            (b"S0", b"T10", b"T0f21=10"),
-            &[7, 3, 5],
-        ),
-        (
-            (b"S4S4", b"T44", b"T4f24=44"),
-            (b"S0", b"T00", b"T0f10=00"),
-            &[4, 2],
-        ),
-        ((b"", b"P2P8P2", b""), (b"", b"P0P1", b""), &[2, 8]),
-        ((b"", b"", b""), (b"", b"", b""), &[]),
-    ];
-    for (given, wanted, numbers) in rows {
-        assert!(rt; is_brought(alloc, given, wanted, numbers)?);
+/// Whether the variables of these digits are those.
+fn are_numbers(found: &[u32], digits: &str) -> bool {
+    let mut rest = digits.bytes();
+    for number in found {
+        if rest.next().unwrap_or(0) as u32 != number.wrapping_add(48) {
+            return false;
+        }
     }
-    Ok(())
+    rest.next().is_none()
 }
 
-#[test]
-fn variants_are_told(rt: HostRuntime) -> Result<(), Fail> {
-    let alloc = rt.alloc();
-    let first = clause(alloc, (b"S0", b"T10", b"T0f21=10"))?;
-    let rows: [(Written, bool); 5] = [
-        ((b"S2", b"T02", b"T2f10=02"), true),
-        ((b"S6", b"T56", b"T6f45=56"), true),
-        ((b"S0", b"T00", b"T0f10=00"), false),
-        ((b"S0", b"T10", b"T0f11=10"), false),
-        ((b"S0", b"T10", b"T0f21=10=01"), false),
-    ];
-    for (written, wanted) in rows {
-        let second = clause(alloc, written)?;
-        assert_eq!(rt; variant(&first, &second), wanted);
-        assert_eq!(rt; variant(&second, &first), wanted);
-    }
-    order_stays();
-    Ok(())
+/// `ordered CLAUSE CLAUSE VARIABLES`: the clause in order by both calls, and the numbers that its variables had.
+pub fn ordered(alloc: Global, row: &Row) -> Result<bool, AllocError> {
+    let given = clause(alloc, row.text(1))?;
+    let wanted = clause(alloc, row.text(2))?;
+    let numbers = order_of(alloc, &given)?;
+    let right = are_numbers(numbers.as_slice(), row.text(3));
+    let Ok(copied) = given.copy(alloc)?.numbered(alloc) else {
+        return Ok(false);
+    };
+    let Ok(moved) = given.into_numbered(alloc) else {
+        return Ok(false);
+    };
+    Ok(right && same_clause(&copied, &wanted) && same_clause(&moved, &wanted))
 }
 
-fn changed(alloc: Global) -> Result<Items<u32>, AllocError> {
-    let mut numbers = Items::from_slice(alloc, [1, 2, 3].as_slice())?;
-    numbers.push_all(Items::from_vec(Vec::from_array(alloc, [4, 5])?))?;
-    for number in numbers.as_mut_slice() {
-        *number ^= 1;
-    }
-    Ok(numbers)
-}
-
-#[test]
-fn lists_are_kept(rt: HostRuntime) -> Result<(), Fail> {
-    let alloc = rt.alloc();
-    let mut numbers = changed(alloc)?;
-    assert_eq!(rt; numbers.pop(), Some(4));
-    assert_eq!(rt; numbers.into_vec().as_slice(), [0, 3, 2, 5].as_slice());
-    assert!(rt; Items::<u32>::new(alloc).is_empty());
-    Ok(())
+/// `variant CLAUSE CLAUSE yes|no`
+pub fn variants(alloc: Global, row: &Row) -> Result<bool, AllocError> {
+    let first = clause(alloc, row.text(1))?;
+    let second = clause(alloc, row.text(2))?;
+    let wanted = row.says(3);
+    Ok(variant(&first, &second) == wanted && variant(&second, &first) == wanted)
 }

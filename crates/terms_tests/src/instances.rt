@@ -1,86 +1,54 @@
 //! Instances of clauses, their limit, and what is true and trivial.
-use crate::makers::{Written, atoms, clause, symbol, term, terms};
-use spl_terms::{Items, PushError, Term, same_clause};
+use crate::clauses::refused;
+use crate::makers::{atoms, clause, is_clause, symbol, term, terms};
+use crate::rows::Row;
+use spl_terms::{Items, Term, same_clause};
 use spl_truth::{Subst, apply, holds, instance, is_ground, is_tautology, replaced};
 use std::alloc::{AllocError, Global};
-use std::test::Fail;
 
-#[test]
-fn variables_are_replaced_in_each_part(rt: HostRuntime) -> Result<(), Fail> {
-    let alloc = rt.alloc();
-    let given = clause(alloc, (b"S0", b"P0", b"=0a"))?;
-    let wanted = clause(alloc, (b"Sb", b"Pb", b"=ba"))?;
+/// `instance TERMS CLAUSE CLAUSE yes|no`: the instance by both calls, and whether it is without variables.
+pub fn instances(alloc: Global, row: &Row) -> Result<bool, AllocError> {
     let subst = Subst {
-        terms: terms(alloc, b"b")?,
+        terms: terms(alloc, row.text(1))?,
     };
-    assert!(rt; same_clause(&apply(alloc, &subst, &given)?, &wanted));
-    assert!(rt; same_clause(&instance(alloc, &subst, &given)?, &wanted));
-    assert!(rt;
-        replaced(alloc, subst.terms.as_slice(), &Term::Var(0))?.equals(&term(alloc, b"b")?)
-    );
-    let empty = Subst {
-        terms: Items::new(alloc),
+    let given = clause(alloc, row.text(2))?;
+    let Ok(applied) = apply(alloc, &subst, &given) else {
+        return Ok(false);
     };
-    assert!(rt; same_clause(&apply(alloc, &empty, &given)?, &given));
-    assert_eq!(rt; (is_ground(&wanted), is_ground(&given)), (true, false));
-    Ok(())
+    let made = instance(alloc, &subst, &given)?;
+    Ok(same_clause(&applied, &made)
+        && is_ground(&made) == row.says(4)
+        && is_clause(alloc, Some(made), row.text(3))?)
 }
 
-/// How many symbols `apply` names where it refuses by size; 0 where it succeeds. The variable 0 becomes a symbol with so
+/// `replaced TERMS TERM TERM`
+pub fn replacement(alloc: Global, row: &Row) -> Result<bool, AllocError> {
+    let entries = terms(alloc, row.text(1))?;
+    let made = replaced(alloc, entries.as_slice(), &term(alloc, row.text(2))?)?;
+    let wanted = term(alloc, row.text(3))?;
+    Ok(made.equals(&wanted))
+}
+
+/// `apply CLAUSE ARGUMENTS SYMBOLS`: how many symbols `apply` refuses, or 0, where the variable 0 becomes a symbol with so
 /// many arguments.
-fn refused(alloc: Global, written: Written, arguments: usize) -> Result<u64, Fail> {
+pub fn applied(alloc: Global, row: &Row) -> Result<bool, AllocError> {
+    let arguments = row.number(2) as usize;
     let mut args = Items::with_room(alloc, arguments)?;
     for _ in 0..arguments {
         args.push(Term::Var(1))?;
     }
     let mut entries = Items::with_room(alloc, 1)?;
     entries.push(Term::App(symbol(b'c'), args))?;
-    match apply(alloc, &Subst { terms: entries }, &clause(alloc, written)?) {
-        Ok(_) => Ok(0),
-        Err(PushError::Big { symbols }) => Ok(symbols),
-        Err(PushError::Memory) => Err(Fail::from(AllocError)),
-    }
+    let given = clause(alloc, row.text(1))?;
+    let answer = refused(apply(alloc, &Subst { terms: entries }, &given))?;
+    Ok(answer == row.number(3) as u64)
 }
 
-#[test]
-fn instances_keep_within_the_limit(rt: HostRuntime) -> Result<(), Fail> {
-    let rows: [(Written, usize, u64); 6] = [
-        ((b"S0", b"", b""), 4094, 0),
-        ((b"S0", b"", b""), 4095, 4097),
-        ((b"", b"P0", b""), 4095, 4097),
-        ((b"", b"", b"P0"), 4095, 4097),
-        ((b"", b"", b"P0"), 4094, 0),
-        ((b"", b"P0", b""), 1_000_010, 1_000_000),
-    ];
-    for (written, arguments, answer) in rows {
-        assert_eq!(rt;
-            refused(rt.alloc(), written, arguments)?,
-            answer,
-            "at {arguments}"
-        );
-    }
-    Ok(())
-}
-
-#[test]
-fn truth_is_judged(rt: HostRuntime) -> Result<(), Fail> {
-    let alloc = rt.alloc();
-    let assignment = atoms(alloc, b"PaSa")?;
-    // whether the clause is true where nothing is, where P(a) and S(a) are, and under each assignment
-    let rows: [(Written, bool, bool, bool); 7] = [
-        ((b"", b"", b""), false, false, false),
-        ((b"Sa", b"", b""), true, false, false),
-        ((b"", b"Pa", b""), true, false, false),
-        ((b"", b"", b"Pa"), false, true, false),
-        ((b"Sa", b"Pa", b"=aa"), true, false, true),
-        ((b"", b"PaQb", b"PaPb"), true, true, true),
-        ((b"", b"=ab", b"=ba"), true, true, true),
-    ];
-    for (written, without, with, always) in rows {
-        let given = clause(alloc, written)?;
-        assert_eq!(rt; holds(&[], &given), without);
-        assert_eq!(rt; holds(assignment.as_slice(), &given), with);
-        assert_eq!(rt; is_tautology(&given), always);
-    }
-    Ok(())
+/// `truth ATOMS CLAUSE yes|no yes|no yes|no`: whether the clause is true where nothing is, where the atoms are, and always.
+pub fn truth(alloc: Global, row: &Row) -> Result<bool, AllocError> {
+    let assignment = atoms(alloc, row.text(1))?;
+    let given = clause(alloc, row.text(2))?;
+    Ok(holds(&[], &given) == row.says(3)
+        && holds(assignment.as_slice(), &given) == row.says(4)
+        && is_tautology(&given) == row.says(5))
 }

@@ -3,7 +3,8 @@
 //! A text is in prefix notation: f and T take two arguments, g, h, p, s and K, P, Q, S take one, a to e take none, `=` is an
 //! equation, the digits are the variables 0 to 9, and w, x, y, z those with the numbers 9000, 64, 70 and 9001. Capital
 //! letters are predicates, but S is a sort. A letter's number is its place in the alphabet.
-use spl_terms::{Atom, Clause, Items, Kind, Symbol, Term};
+use crate::rows::Row;
+use spl_terms::{Atom, Clause, Items, Kind, Part, Symbol, Term, same_clause};
 use std::alloc::{AllocError, Global};
 
 /// How many arguments the letter takes.
@@ -96,31 +97,46 @@ fn read(alloc: Global, text: &[u8]) -> Result<Reading, AllocError> {
 }
 
 /// The terms of a text in order.
-pub fn terms(alloc: Global, text: &[u8]) -> Result<Items<Term>, AllocError> {
-    Ok(Items::from_vec(read(alloc, text)?.terms))
+pub fn terms(alloc: Global, text: &str) -> Result<Items<Term>, AllocError> {
+    Ok(Items::from_vec(read(alloc, text.as_bytes())?.terms))
 }
 
 /// The first term of a text.
-pub fn term(alloc: Global, text: &[u8]) -> Result<Term, AllocError> {
-    let mut found = read(alloc, text)?.terms;
+pub fn term(alloc: Global, text: &str) -> Result<Term, AllocError> {
+    let mut found = read(alloc, text.as_bytes())?.terms;
     found.truncate(1);
     Ok(found.pop().unwrap_or(Term::Var(0)))
 }
 
 /// The atoms of a text in order.
-pub fn atoms(alloc: Global, text: &[u8]) -> Result<Items<Atom>, AllocError> {
-    Ok(Items::from_vec(read(alloc, text)?.atoms))
+pub fn atoms(alloc: Global, text: &str) -> Result<Items<Atom>, AllocError> {
+    Ok(Items::from_vec(read(alloc, text.as_bytes())?.atoms))
 }
 
-/// The texts of a clause: its constraint, antecedent and succedent.
-pub type Written = (&'static [u8], &'static [u8], &'static [u8]);
-
-/// The clause of these texts.
-pub fn clause(alloc: Global, written: Written) -> Result<Clause, AllocError> {
-    let (constraint, antecedent, succedent) = written;
+/// The clause of a text in which `|` stands after the constraint and after the antecedent.
+pub fn clause(alloc: Global, text: &str) -> Result<Clause, AllocError> {
+    let parts = Row::split(alloc, text, '|')?;
     Ok(Clause {
-        constraint: atoms(alloc, constraint)?,
-        antecedent: atoms(alloc, antecedent)?,
-        succedent: atoms(alloc, succedent)?,
+        constraint: atoms(alloc, parts.text(0))?,
+        antecedent: atoms(alloc, parts.text(1))?,
+        succedent: atoms(alloc, parts.text(2))?,
     })
+}
+
+/// The part of a name.
+pub fn part(name: &str) -> Part {
+    match name {
+        "constraint" => Part::Constraint,
+        "antecedent" => Part::Antecedent,
+        _ => Part::Succedent,
+    }
+}
+
+/// Whether the clause is the one of the text, or there is none and the text says so.
+pub fn is_clause(alloc: Global, made: Option<Clause>, text: &str) -> Result<bool, AllocError> {
+    let Some(made) = made else {
+        return Ok(text == "none");
+    };
+    let wanted = clause(alloc, text)?;
+    Ok(text != "none" && same_clause(&made, &wanted))
 }

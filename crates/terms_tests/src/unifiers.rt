@@ -1,117 +1,86 @@
-//! Unifiers and matchers of terms over the variables 0, 1, 2, as worked out by hand.
+//! Unifiers and matchers of terms over the first variables.
 use crate::makers::{symbol, term, terms};
+use crate::rows::Row;
 use spl_terms::{Items, Term, all_equal};
 use spl_truth::Subst;
 use std::alloc::{AllocError, Global};
-use std::test::Fail;
 use unify::{
     Bindings, all_cover, all_fit, covers, fits, has_variables_below, have_variables_below,
     match_arguments, match_into, match_term, match_terms, unify, unify_arguments, unify_bound,
 };
 
-/// Whether the entries are those of the text; an empty text stands for no answer.
-fn is_answer(alloc: Global, found: &Option<Subst>, text: &[u8]) -> Result<bool, AllocError> {
-    match found {
-        Some(subst) => {
-            let wanted = terms(alloc, text)?;
-            Ok(!text.is_empty() && all_equal(subst.terms.as_slice(), wanted.as_slice()))
-        }
-        None => Ok(text.is_empty()),
-    }
+/// Whether the entries are those of the text, or there is no answer and the text says so.
+fn is_answer(alloc: Global, found: &Option<Subst>, text: &str) -> Result<bool, AllocError> {
+    let Some(subst) = found else {
+        return Ok(text == "none");
+    };
+    let wanted = terms(alloc, text)?;
+    Ok(text != "none" && all_equal(subst.terms.as_slice(), wanted.as_slice()))
 }
 
-/// Whether two terms have this most general unifier.
-fn is_unified(alloc: Global, left: &[u8], right: &[u8], wanted: &[u8]) -> Result<bool, AllocError> {
-    let left = term(alloc, left)?;
-    let right = term(alloc, right)?;
+/// `unify TERM TERM TERMS|none`: the most general unifier of terms over the variables 0, 1, 2.
+pub fn unified(alloc: Global, row: &Row) -> Result<bool, AllocError> {
+    let left = term(alloc, row.text(1))?;
+    let right = term(alloc, row.text(2))?;
     if !has_variables_below(&left, 3) || !has_variables_below(&right, 3) {
         return Ok(false);
     }
     let found = unify(alloc, &left, &right, 3)?;
-    Ok(is_answer(alloc, &found, wanted)? && (found.is_none() || fits(&left, &right)))
+    Ok((found.is_none() || fits(&left, &right)) && is_answer(alloc, &found, row.text(3))?)
 }
 
-#[test]
-fn terms_are_unified(rt: HostRuntime) -> Result<(), Fail> {
-    let rows: [(&[u8], &[u8], &[u8]); 10] = [
-        (b"f0g1", b"fga2", b"ga1g1"),
-        (b"0", b"f00", b""),
-        (b"f00", b"f1g1", b""),
-        (b"0", b"0", b"012"),
-        (b"1", b"0", b"002"),
-        (b"f01", b"f12", b"222"),
-        (b"fg00", b"f2a", b"a1ga"),
-        (b"f00", b"fg1ga", b"gaa2"),
-        (b"f00", b"faga", b""),
-        (b"ga", b"faa", b""),
-    ];
-    for (left, right, wanted) in rows {
-        assert!(rt; is_unified(rt.alloc(), left, right, wanted)?);
-    }
-    Ok(())
-}
-
-/// Whether the pattern has this matcher to the target.
-fn is_matched(alloc: Global, left: &[u8], right: &[u8], wanted: &[u8]) -> Result<bool, AllocError> {
-    let pattern = term(alloc, left)?;
-    let target = term(alloc, right)?;
+/// `match TERM TERM TERMS|none`: the matcher of the first to the second.
+pub fn matched(alloc: Global, row: &Row) -> Result<bool, AllocError> {
+    let pattern = term(alloc, row.text(1))?;
+    let target = term(alloc, row.text(2))?;
     if !has_variables_below(&pattern, 3) {
         return Ok(false);
     }
     let found = match_into(alloc, &pattern, &target, 3)?;
-    Ok(is_answer(alloc, &found, wanted)? && (found.is_none() || covers(&pattern, &target)))
+    Ok((found.is_none() || covers(&pattern, &target)) && is_answer(alloc, &found, row.text(3))?)
 }
 
-#[test]
-fn patterns_are_matched(rt: HostRuntime) -> Result<(), Fail> {
-    let rows: [(&[u8], &[u8], &[u8]); 6] = [
-        (b"f00", b"faga", b""),
-        (b"f0g2", b"fg2g0", b"g210"),
-        (b"0", b"g0", b"g012"),
-        (b"ga", b"0", b""),
-        (b"f11", b"fg0g0", b"0g02"),
-        (b"f01", b"ga", b""),
-    ];
-    for (pattern, target, wanted) in rows {
-        assert!(rt; is_matched(rt.alloc(), pattern, target, wanted)?);
+/// `unify_arguments TERMS TERMS TERMS|none`: the same for lists of arguments over the variables 0 and 1.
+pub fn unified_arguments(alloc: Global, row: &Row) -> Result<bool, AllocError> {
+    let left = terms(alloc, row.text(1))?;
+    let right = terms(alloc, row.text(2))?;
+    let (left, right) = (left.as_slice(), right.as_slice());
+    if !have_variables_below(left, 2) || !have_variables_below(right, 2) || !all_fit(left, right) {
+        return Ok(false);
     }
-    Ok(())
+    let found = unify_arguments(alloc, left, right, 2)?;
+    is_answer(alloc, &found, row.text(3))
 }
 
-#[test]
-fn lists_of_arguments_are_taken(rt: HostRuntime) -> Result<(), Fail> {
-    let alloc = rt.alloc();
-    let left = terms(alloc, b"01")?;
-    let right = terms(alloc, b"1ga")?;
-    assert!(rt; have_variables_below(left.as_slice(), 2));
-    assert!(rt; have_variables_below(right.as_slice(), 2));
-    assert!(rt; !have_variables_below(left.as_slice(), 1));
-    assert!(rt; all_fit(left.as_slice(), right.as_slice()));
-    assert!(rt; !all_cover(right.as_slice(), left.as_slice()));
-    let found = unify_arguments(alloc, left.as_slice(), right.as_slice(), 2)?;
-    assert!(rt; is_answer(alloc, &found, b"gaga")?);
-    let found = match_arguments(alloc, left.as_slice(), right.as_slice(), 2)?;
-    assert!(rt; is_answer(alloc, &found, b"1ga")?);
-    Ok(())
+/// `match_arguments TERMS TERMS TERMS|none`: the same for a matcher, where the second list can't be matched to the first.
+pub fn matched_arguments(alloc: Global, row: &Row) -> Result<bool, AllocError> {
+    let left = terms(alloc, row.text(1))?;
+    let right = terms(alloc, row.text(2))?;
+    let (left, right) = (left.as_slice(), right.as_slice());
+    if !have_variables_below(left, 2) || all_cover(right, left) {
+        return Ok(false);
+    }
+    let found = match_arguments(alloc, left, right, 2)?;
+    is_answer(alloc, &found, row.text(3))
 }
 
-#[test]
-fn matching_goes_on_from_bindings(rt: HostRuntime) -> Result<(), Fail> {
-    let alloc = rt.alloc();
-    let pattern = term(alloc, b"f01")?;
-    let target = term(alloc, b"fa2")?;
-    let more = terms(alloc, b"10")?;
-    let clashes = terms(alloc, b"aa")?;
-    assert!(rt; has_variables_below(&pattern, 2));
-    assert!(rt; have_variables_below(more.as_slice(), 2));
+/// `match_on TERM TERM TERMS TERMS`: whether the lists match only where what the terms bound is undone.
+pub fn matched_on(alloc: Global, row: &Row) -> Result<bool, AllocError> {
+    let pattern = term(alloc, row.text(1))?;
+    let target = term(alloc, row.text(2))?;
+    let more = terms(alloc, row.text(3))?;
+    let clashes = terms(alloc, row.text(4))?;
+    let (more, clashes) = (more.as_slice(), clashes.as_slice());
+    if !has_variables_below(&pattern, 2) || !have_variables_below(more, 2) {
+        return Ok(false);
+    }
     let mut found = Bindings::new(alloc, 2)?;
-    assert!(rt; match_term(&pattern, &target, &mut found)?);
-    assert!(rt; !match_terms(more.as_slice(), clashes.as_slice(), &mut found)?);
-    assert!(rt; is_answer(alloc, &Some(found.entries(alloc, 2)?), b"a2")?);
+    let first = match_term(&pattern, &target, &mut found)?;
+    let second = match_terms(more, clashes, &mut found)?;
+    let bound = Some(found.entries(alloc, 2)?);
     found.undo(0);
-    assert!(rt; found.get(1).is_none());
-    assert!(rt; match_terms(more.as_slice(), clashes.as_slice(), &mut found)?);
-    Ok(())
+    let third = match_terms(more, clashes, &mut found)?;
+    Ok(first && !second && third && is_answer(alloc, &bound, row.text(5))?)
 }
 
 /// `f` of twice this variable.
@@ -143,17 +112,14 @@ fn chain(alloc: Global, doubled: bool, closed: bool) -> Result<Term, AllocError>
     Ok(Term::App(symbol(b'h'), args))
 }
 
-#[test]
-fn chains_are_unified_at_once(rt: HostRuntime) -> Result<(), Fail> {
-    let alloc = rt.alloc();
-    // the last variable stands for a term of more symbols than 64 bits count, and a closed chain has no unifier
-    for (closed, unifies) in [(false, true), (true, false)] {
-        let left = chain(alloc, false, closed)?;
-        let right = chain(alloc, true, closed)?;
-        assert!(rt; has_variables_below(&left, 61));
-        assert!(rt; has_variables_below(&right, 61));
-        let found = unify_bound(alloc, &left, &right, 61)?;
-        assert_eq!(rt; found.is_some(), unifies);
+/// `chain yes|no yes|no`: whether chains unify, the first word says whether they are closed. The last variable of one that
+/// isn't stands for a term of more symbols than 64 bits count.
+pub fn chains(alloc: Global, row: &Row) -> Result<bool, AllocError> {
+    let left = chain(alloc, false, row.says(1))?;
+    let right = chain(alloc, true, row.says(1))?;
+    if !has_variables_below(&left, 61) || !has_variables_below(&right, 61) {
+        return Ok(false);
     }
-    Ok(())
+    let found = unify_bound(alloc, &left, &right, 61)?;
+    Ok(found.is_some() == row.says(2))
 }

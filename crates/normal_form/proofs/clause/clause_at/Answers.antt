@@ -3,8 +3,8 @@ use Rattle.spl_terms.specs.Clauses.{in_order}
 use Rattle.formulas.specs.Negations.{Form, signed_form}
 use Rattle.normal_form.specs.Law.{bindings}
 use Rattle.normal_form.specs.Skolem.{start}
-use Rattle.normal_form.specs.Choices.{chosen}
-use Rattle.normal_form.specs.Blocks.{place_in}
+use Rattle.normal_form.specs.Choices.{literals_chosen}
+use Rattle.normal_form.specs.Blocks.{place_below}
 use Rattle.normal_form.specs.Gathering.{gathered, no_literals}
 use Rattle.normal_form.specs.Walking.{AreFresh}
 use Rattle.normal_form.proofs.Freshness.{fresh_outside}
@@ -23,6 +23,6 @@ returns-in-Ok c =
     (let f : Form = signed_form c.args.formula.now c.args.sign in
     let none = c.new-clause.ensures in
     let empty : c.new-clause.result ≡ no_literals = λ i. record { constraint = none.0 i; antecedent = none.1 i; succedent = none.2 i } in
-    let made = c.in_ok-add.ensures.added ∙ (λ i. gathered (empty i) (chosen f (place_in (c.new-blocks.ensures i) c.args.next) c.args.place)) in
+    let made = c.in_ok-add.ensures.added ∙ (λ i. gathered (empty i) (literals_chosen f (place_below (c.new-blocks.ensures i) c.args.next) c.args.place)) in
     clause-get f c.args.next c.args.place c.requires.can.within
-    ∙ ap Some (sym (c.in-Ok.ensures.exact ∙ ap in_order made ∙ in_order-gathered (chosen f (start c.args.next) c.args.place))))
+    ∙ ap Some (sym (c.in-Ok.ensures.exact ∙ ap in_order made ∙ in_order-gathered (literals_chosen f (start c.args.next) c.args.place))))

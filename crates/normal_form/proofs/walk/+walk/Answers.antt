@@ -2,9 +2,9 @@ use Rattle.std.proofs.Common.{◌≡◌, [], ◌∷◌, ◌++◌, ℕ, ◌+◌, 
 use Rattle.formulas.specs.Negations.{Form, signed_form}
 use Rattle.formulas.specs.Counts.{clause_count, existentials}
 use Rattle.formulas.specs.FormLaws.{form-True, form-False, form-Atom, form-Not, form-Implies, form-not_Implies, form-Equiv, form-not_Equiv, form-And, form-Or}
-use Rattle.normal_form.specs.Choices.{chosen, chosen_in_each, product_count}
+use Rattle.normal_form.specs.Choices.{literals_chosen, chosen_in_each, product_count}
 use Rattle.normal_form.specs.Skolem.{Place, behind}
-use Rattle.normal_form.specs.Blocks.{place_in, universal_block, existential_block}
+use Rattle.normal_form.specs.Blocks.{place_below, universal_block, existential_block}
 use Rattle.normal_form.proofs.BlockLemmas.{form-foralls, form-not_foralls, form-exists, form-not_exists, place-universal, place-existential, chosen-for_each, chosen-for_any}
 use Rattle.normal_form.specs.Gathering.{gathered}
 use Rattle.normal_form.specs.Walking.{CanAdd, AreFresh}
@@ -37,30 +37,30 @@ add-add_one-requires t c = (
 
 pub add-returns-in-True-clause-added : goal.add-returns-in-True-clause-added
 add-returns-in-True-clause-added t c =
-    sym (ap (λ f. gathered c.args.clause.now (chosen f (place_in c.args.blocks.now c.args.next) c.args.place)) (ap (λ u. signed_form u c.args.sign) c.in-True.ensures.shown ∙ form-True c.args.sign))
+    sym (ap (λ f. gathered c.args.clause.now (literals_chosen f (place_below c.args.blocks.now c.args.next) c.args.place)) (ap (λ u. signed_form u c.args.sign) c.in-True.ensures.shown ∙ form-True c.args.sign))
 
 pub add-returns-in-False-clause-added : goal.add-returns-in-False-clause-added
 add-returns-in-False-clause-added t c =
-    sym (ap (λ f. gathered c.args.clause.now (chosen f (place_in c.args.blocks.now c.args.next) c.args.place)) (ap (λ u. signed_form u c.args.sign) c.in-False.ensures.shown ∙ form-False c.args.sign))
+    sym (ap (λ f. gathered c.args.clause.now (literals_chosen f (place_below c.args.blocks.now c.args.next) c.args.place)) (ap (λ u. signed_form u c.args.sign) c.in-False.ensures.shown ∙ form-False c.args.sign))
 
 pub add-returns-in-Atom-clause-added : goal.add-returns-in-Atom-clause-added
 add-returns-in-Atom-clause-added t c =
-    subst (λ f. OnOk c.add_atom.result (c.add_atom.new.clause ≡ gathered c.args.clause.now (chosen f (place_in c.args.blocks.now c.args.next) c.args.place)))
+    subst (λ f. OnOk c.add_atom.result (c.add_atom.new.clause ≡ gathered c.args.clause.now (literals_chosen f (place_below c.args.blocks.now c.args.next) c.args.place)))
     (sym (ap (λ u. signed_form u c.args.sign) c.in-Atom.ensures.shown ∙ form-Atom c.in-Atom.atom.now c.args.sign)) c.add_atom.ensures
 
 pub add-returns-in-Not-clause-added : goal.add-returns-in-Not-clause-added
 add-returns-in-Not-clause-added t c =
-    subst (λ f. OnOk c.add.result (c.add.new.clause ≡ gathered c.args.clause.now (chosen f (place_in c.args.blocks.now c.args.next) c.args.place)))
+    subst (λ f. OnOk c.add.result (c.add.new.clause ≡ gathered c.args.clause.now (literals_chosen f (place_below c.args.blocks.now c.args.next) c.args.place)))
     (sym (ap (λ u. signed_form u c.args.sign) c.in-Not.ensures.shown ∙ form-Not c.in-Not.part.now c.args.sign)) c.add.ensures.added
 
 pub add-returns-then-sign-clause-added : goal.add-returns-then-sign-clause-added
 add-returns-then-sign-clause-added t c =
-    subst (λ f. OnOk c.add_both.result (c.add_both.new.clause ≡ gathered c.args.clause.now (chosen f (place_in c.args.blocks.now c.args.next) c.args.place)))
+    subst (λ f. OnOk c.add_both.result (c.add_both.new.clause ≡ gathered c.args.clause.now (literals_chosen f (place_below c.args.blocks.now c.args.next) c.args.place)))
     (sym ((λ i. signed_form (c.in-Implies.ensures.shown i) (c.if-sign.true i)) ∙ form-Implies c.in-Implies.left.now c.in-Implies.right.now)) c.add_both.ensures.added
 
 pub add-returns-else-sign-clause-added : goal.add-returns-else-sign-clause-added
 add-returns-else-sign-clause-added t c =
-    subst (λ f. OnOk c.add_one.result (c.add_one.new.clause ≡ gathered c.args.clause.now (chosen f (place_in c.args.blocks.now c.args.next) c.args.place)))
+    subst (λ f. OnOk c.add_one.result (c.add_one.new.clause ≡ gathered c.args.clause.now (literals_chosen f (place_below c.args.blocks.now c.args.next) c.args.place)))
     (sym ((λ i. signed_form (c.in-Implies.ensures.shown i) (c.if-sign.false i)) ∙ form-not_Implies c.in-Implies.left.now c.in-Implies.right.now)) c.add_one.ensures.added
 
 pub add_both-add-requires : goal.add_both-add-requires
@@ -98,17 +98,17 @@ add-add_universal-requires t c = (
 
 pub add-returns-then-sign-4-clause-added : goal.add-returns-then-sign-4-clause-added
 add-returns-then-sign-4-clause-added t c =
-    subst (λ f. OnOk c.add_equivalence.result (c.add_equivalence.new.clause ≡ gathered c.args.clause.now (chosen f (place_in c.args.blocks.now c.args.next) c.args.place)))
+    subst (λ f. OnOk c.add_equivalence.result (c.add_equivalence.new.clause ≡ gathered c.args.clause.now (literals_chosen f (place_below c.args.blocks.now c.args.next) c.args.place)))
     (sym ((λ i. signed_form (c.in-Equiv.ensures.shown i) (c.if-sign-4.true i)) ∙ form-Equiv c.in-Equiv.left.now c.in-Equiv.right.now)) c.add_equivalence.ensures.added
 
 pub add-returns-else-sign-4-clause-added : goal.add-returns-else-sign-4-clause-added
 add-returns-else-sign-4-clause-added t c =
-    subst (λ f. OnOk c.add_difference.result (c.add_difference.new.clause ≡ gathered c.args.clause.now (chosen f (place_in c.args.blocks.now c.args.next) c.args.place)))
+    subst (λ f. OnOk c.add_difference.result (c.add_difference.new.clause ≡ gathered c.args.clause.now (literals_chosen f (place_below c.args.blocks.now c.args.next) c.args.place)))
     (sym ((λ i. signed_form (c.in-Equiv.ensures.shown i) (c.if-sign-4.false i)) ∙ form-not_Equiv c.in-Equiv.left.now c.in-Equiv.right.now)) c.add_difference.ensures.added
 
 pub add-returns-then-sign-5-clause-added : goal.add-returns-then-sign-5-clause-added
 add-returns-then-sign-5-clause-added t c =
-    subst (λ f. OnOk c.add_universal.result (c.add_universal.new.clause ≡ gathered c.args.clause.now (chosen f (place_in c.args.blocks.now c.args.next) c.args.place)))
+    subst (λ f. OnOk c.add_universal.result (c.add_universal.new.clause ≡ gathered c.args.clause.now (literals_chosen f (place_below c.args.blocks.now c.args.next) c.args.place)))
     (sym ((λ i. signed_form (c.in-Forall.ensures.shown i) (c.if-sign-5.true i)) ∙ form-foralls c.in-Forall.first c.in-Forall.count c.in-Forall.part.now)) c.add_universal.ensures.added
 
 pub add_universal-add-requires : goal.add_universal-add-requires
@@ -126,8 +126,8 @@ add_universal-returns-clause-added t c =
     let b : Block = universal_block c.args.first c.args.count in
     let pushed : c.push_universal.new.blocks ≡ c.args.blocks.now ++ b ∷ [] = c.in_ok-push_universal.ensures in
     c.in_ok-add.ensures.added
-    ∙ ap (λ p. gathered c.args.clause.now (chosen f p c.args.place)) (ap (λ bs. place_in bs c.args.next) pushed ∙ place-universal c.args.blocks.now c.args.first c.args.count c.args.next)
-    ∙ ap (gathered c.args.clause.now) (sym (chosen-for_each c.args.first c.args.count f (place_in c.args.blocks.now c.args.next) c.args.place)))
+    ∙ ap (λ p. gathered c.args.clause.now (literals_chosen f p c.args.place)) (ap (λ bs. place_below bs c.args.next) pushed ∙ place-universal c.args.blocks.now c.args.first c.args.count c.args.next)
+    ∙ ap (gathered c.args.clause.now) (sym (chosen-for_each c.args.first c.args.count f (place_below c.args.blocks.now c.args.next) c.args.place)))
 
 pub add_existential-push_existential-requires-clause-room : goal.add_existential-push_existential-requires-clause-room
 add_existential-push_existential-requires-clause-room t c =
@@ -139,13 +139,13 @@ add_existential-overflow_add-next t c =
 
 pub add_existential-returns-clause-kept : goal.add_existential-returns-clause-kept
 add_existential-returns-clause-kept t c =
-    popped c.args.blocks.now c.pop.new.self c.add.new.blocks (existential_block c.args.first c.args.count (signed_form c.args.part.now c.args.sign) (place_in c.args.blocks.now c.args.next)) c.pop.result
+    popped c.args.blocks.now c.pop.new.self c.add.new.blocks (existential_block c.args.first c.args.count (signed_form c.args.part.now c.args.sign) (place_below c.args.blocks.now c.args.next)) c.pop.result
     (c.in_ok-add.ensures.kept ∙ c.in_ok-push_existential.ensures c.args.sign) c.pop.ensures
 
 pub add_existential-add-requires : goal.add_existential-add-requires
 add_existential-add-requires t c =
     (let f : Form = signed_form c.args.part.now c.args.sign in
-    let b : Block = existential_block c.args.first c.args.count f (place_in c.args.blocks.now c.args.next) in
+    let b : Block = existential_block c.args.first c.args.count f (place_below c.args.blocks.now c.args.next) in
     let pushed : c.push_existential.new.blocks ≡ c.args.blocks.now ++ b ∷ [] = c.in_ok-push_existential.ensures c.args.sign in (
       omega (arith, c.decreases),
       (can_existential c.args.first c.args.count f c.args.next c.args.place c.requires.can, subst (λ bs. AreFresh bs (bindings c.args.part.now)) (sym pushed) (fresh_behind c.args.blocks.now b (bindings c.args.part.now) c.requires.fresh)),
@@ -154,11 +154,11 @@ add_existential-add-requires t c =
 pub add_existential-returns-clause-added : goal.add_existential-returns-clause-added
 add_existential-returns-clause-added t c =
     (let f : Form = signed_form c.args.part.now c.args.sign in
-    let b : Block = existential_block c.args.first c.args.count f (place_in c.args.blocks.now c.args.next) in
+    let b : Block = existential_block c.args.first c.args.count f (place_below c.args.blocks.now c.args.next) in
     let pushed : c.push_existential.new.blocks ≡ c.args.blocks.now ++ b ∷ [] = c.in_ok-push_existential.ensures c.args.sign in
     c.in_ok-add.ensures.added
-    ∙ ap (λ p. gathered c.args.clause.now (chosen f p c.args.place)) (ap (λ bs. place_in bs (c.args.next + c.args.count)) pushed ∙ place-existential c.args.blocks.now c.args.first c.args.count c.args.next f)
-    ∙ ap (gathered c.args.clause.now) (sym (chosen-for_any c.args.first c.args.count f (place_in c.args.blocks.now c.args.next) c.args.place)))
+    ∙ ap (λ p. gathered c.args.clause.now (literals_chosen f p c.args.place)) (ap (λ bs. place_below bs (c.args.next + c.args.count)) pushed ∙ place-existential c.args.blocks.now c.args.first c.args.count c.args.next f)
+    ∙ ap (gathered c.args.clause.now) (sym (chosen-for_any c.args.first c.args.count f (place_below c.args.blocks.now c.args.next) c.args.place)))
 
 pub add-add_existential-requires : goal.add-add_existential-requires
 add-add_existential-requires t c = (
@@ -168,7 +168,7 @@ add-add_existential-requires t c = (
 
 pub add-returns-else-sign-5-clause-added : goal.add-returns-else-sign-5-clause-added
 add-returns-else-sign-5-clause-added t c =
-    subst (λ f. OnOk c.add_existential.result (c.add_existential.new.clause ≡ gathered c.args.clause.now (chosen f (place_in c.args.blocks.now c.args.next) c.args.place)))
+    subst (λ f. OnOk c.add_existential.result (c.add_existential.new.clause ≡ gathered c.args.clause.now (literals_chosen f (place_below c.args.blocks.now c.args.next) c.args.place)))
     (sym ((λ i. signed_form (c.in-Forall.ensures.shown i) (c.if-sign-5.false i)) ∙ form-not_foralls c.in-Forall.first c.in-Forall.count c.in-Forall.part.now)) c.add_existential.ensures.added
 
 pub add-add_existential-requires-then-sign-6 : goal.add-add_existential-requires-then-sign-6
@@ -179,7 +179,7 @@ add-add_existential-requires-then-sign-6 t c = (
 
 pub add-returns-then-sign-6-clause-added : goal.add-returns-then-sign-6-clause-added
 add-returns-then-sign-6-clause-added t c =
-    subst (λ f. OnOk c.add_existential-then-sign-6.result (c.add_existential-then-sign-6.new.clause ≡ gathered c.args.clause.now (chosen f (place_in c.args.blocks.now c.args.next) c.args.place)))
+    subst (λ f. OnOk c.add_existential-then-sign-6.result (c.add_existential-then-sign-6.new.clause ≡ gathered c.args.clause.now (literals_chosen f (place_below c.args.blocks.now c.args.next) c.args.place)))
     (sym ((λ i. signed_form (c.in-Exists.ensures.shown i) (c.if-sign-6.true i)) ∙ form-exists c.in-Exists.first c.in-Exists.count c.in-Exists.part.now)) c.add_existential-then-sign-6.ensures.added
 
 pub add-add_universal-requires-else-sign-6 : goal.add-add_universal-requires-else-sign-6
@@ -190,7 +190,7 @@ add-add_universal-requires-else-sign-6 t c = (
 
 pub add-returns-else-sign-6-clause-added : goal.add-returns-else-sign-6-clause-added
 add-returns-else-sign-6-clause-added t c =
-    subst (λ f. OnOk c.add_universal-else-sign-6.result (c.add_universal-else-sign-6.new.clause ≡ gathered c.args.clause.now (chosen f (place_in c.args.blocks.now c.args.next) c.args.place)))
+    subst (λ f. OnOk c.add_universal-else-sign-6.result (c.add_universal-else-sign-6.new.clause ≡ gathered c.args.clause.now (literals_chosen f (place_below c.args.blocks.now c.args.next) c.args.place)))
     (sym ((λ i. signed_form (c.in-Exists.ensures.shown i) (c.if-sign-6.false i)) ∙ form-not_exists c.in-Exists.first c.in-Exists.count c.in-Exists.part.now)) c.add_universal-else-sign-6.ensures.added
 
 pub add-add_in_one-requires : goal.add-add_in_one-requires
@@ -201,7 +201,7 @@ add-add_in_one-requires t c = (
 
 pub add-returns-then-sign-2-clause-added : goal.add-returns-then-sign-2-clause-added
 add-returns-then-sign-2-clause-added t c =
-    subst (λ f. OnOk c.add_in_one.result (c.add_in_one.new.clause ≡ gathered c.args.clause.now (chosen f (place_in c.args.blocks.now c.args.next) c.args.place)))
+    subst (λ f. OnOk c.add_in_one.result (c.add_in_one.new.clause ≡ gathered c.args.clause.now (literals_chosen f (place_below c.args.blocks.now c.args.next) c.args.place)))
     (sym ((λ i. signed_form (c.in-And.ensures.shown i) (c.if-sign-2.true i)) ∙ form-And c.in-And.parts.now true)) c.add_in_one.ensures.added
 
 pub add-add_in_one-requires-else-sign-3 : goal.add-add_in_one-requires-else-sign-3
@@ -212,7 +212,7 @@ add-add_in_one-requires-else-sign-3 t c = (
 
 pub add-returns-else-sign-3-clause-added : goal.add-returns-else-sign-3-clause-added
 add-returns-else-sign-3-clause-added t c =
-    subst (λ f. OnOk c.add_in_one-else-sign-3.result (c.add_in_one-else-sign-3.new.clause ≡ gathered c.args.clause.now (chosen f (place_in c.args.blocks.now c.args.next) c.args.place)))
+    subst (λ f. OnOk c.add_in_one-else-sign-3.result (c.add_in_one-else-sign-3.new.clause ≡ gathered c.args.clause.now (literals_chosen f (place_below c.args.blocks.now c.args.next) c.args.place)))
     (sym ((λ i. signed_form (c.in-Or.ensures.shown i) (c.if-sign-3.false i)) ∙ form-Or c.in-Or.parts.now false)) c.add_in_one-else-sign-3.ensures.added
 
 pub add_in_one-loop-part-init : goal.add_in_one-loop-part-init
@@ -241,9 +241,9 @@ add_in_one-returns-then-place-count-clause-added t c =
     let fs = forms_of c.args.sign c.args.parts.now in
     let counted = ap (λ x. x.clauses) c.count-count.ensures in
     let below : c.loop-part.place < clause_count f = omega (arith, counted, c.if-place-count.true) in
-    let picked = here c.args.sign c.args.parts.now c.loop-part.part-index c.part-item.result (place_in c.args.blocks.now c.loop-part.next) c.loop-part.place c.loop-part-test.true c.part-item.is below in
-    let all = all_chosen fs (place_in c.args.blocks.now c.args.next) c.args.place c.requires.can.within in
-    let list = ap (λ bs. chosen f (place_in bs c.loop-part.next) c.loop-part.place) c.loop-part.invariant.kept ∙ sym picked ∙ c.loop-part.invariant.same ∙ sym all in
+    let picked = here c.args.sign c.args.parts.now c.loop-part.part-index c.part-item.result (place_below c.args.blocks.now c.loop-part.next) c.loop-part.place c.loop-part-test.true c.part-item.is below in
+    let all = all_chosen fs (place_below c.args.blocks.now c.args.next) c.args.place c.requires.can.within in
+    let list = ap (λ bs. literals_chosen f (place_below bs c.loop-part.next) c.loop-part.place) c.loop-part.invariant.kept ∙ sym picked ∙ c.loop-part.invariant.same ∙ sym all in
     subst (λ made. OnOk c.add.result (c.add.new.clause ≡ made)) (λ i. gathered (c.loop-part.invariant.as_before i) (list i)) c.add.ensures.added)
 
 pub add-add_in_each-requires : goal.add-add_in_each-requires
@@ -268,12 +268,12 @@ add-add_in_each-requires-then-sign-3 t c =
 
 pub add-returns-else-sign-2-clause-added : goal.add-returns-else-sign-2-clause-added
 add-returns-else-sign-2-clause-added t c =
-    subst (λ f. OnOk c.add_in_each.result (c.add_in_each.new.clause ≡ gathered c.args.clause.now (chosen f (place_in c.args.blocks.now c.args.next) c.args.place)))
+    subst (λ f. OnOk c.add_in_each.result (c.add_in_each.new.clause ≡ gathered c.args.clause.now (literals_chosen f (place_below c.args.blocks.now c.args.next) c.args.place)))
     (sym ((λ i. signed_form (c.in-And.ensures.shown i) (c.if-sign-2.false i)) ∙ form-And c.in-And.parts.now false)) c.add_in_each.ensures.added
 
 pub add-returns-then-sign-3-clause-added : goal.add-returns-then-sign-3-clause-added
 add-returns-then-sign-3-clause-added t c =
-    subst (λ f. OnOk c.add_in_each-then-sign-3.result (c.add_in_each-then-sign-3.new.clause ≡ gathered c.args.clause.now (chosen f (place_in c.args.blocks.now c.args.next) c.args.place)))
+    subst (λ f. OnOk c.add_in_each-then-sign-3.result (c.add_in_each-then-sign-3.new.clause ≡ gathered c.args.clause.now (literals_chosen f (place_below c.args.blocks.now c.args.next) c.args.place)))
     (sym ((λ i. signed_form (c.in-Or.ensures.shown i) (c.if-sign-3.true i)) ∙ form-Or c.in-Or.parts.now true)) c.add_in_each-then-sign-3.ensures.added
 
 pub add_in_each-loop-part-init : goal.add_in_each-loop-part-init
@@ -311,7 +311,7 @@ add_in_each-loop-part-preserved t c =
     let fs : List Form = forms_of c.args.sign (drop (c.loop-part.part-index + 1) c.args.parts.now) in
     let next : ℕ = c.loop-part.next in
     let place : ℕ = c.loop-part.place in
-    let p : Place = place_in c.args.blocks.now next in
+    let p : Place = place_below c.args.blocks.now next in
     let taken = next_taken c.args.sign c.args.parts.now c.loop-part.part-index c.part-item.result next place c.loop-part.rest c.loop-part-test.true c.part-item.is c.loop-part.invariant.can in
     let rows = ap (λ x. x.clauses) c.count-count.ensures ∙ exact_clauses f taken.few in
     let d : c.loop-part.rest / c.count-count.result.clauses ≡ product_count fs = ap (λ n. c.loop-part.rest / n) rows ∙ taken.divided in
@@ -320,9 +320,9 @@ add_in_each-loop-part-preserved t c =
     record {
       can = subst (λ n. CanTake fs (next + c.count-count.result.skolems) (place % n) n) (sym d) (subst (λ n. CanTake fs (next + n) (place % product_count fs) (product_count fs)) (sym sk) taken.later);
       made =
-          ap (λ m. gathered m (chosen_in_each fs (place_in c.args.blocks.now (next + c.count-count.result.skolems)) (place % (c.loop-part.rest / c.count-count.result.clauses)))) c.in_ok-add.ensures.added
-          ∙ (λ i. gathered (gathered c.loop-part.clause (chosen f (place_in (c.loop-part.invariant.kept i) next) (place / d i))) (chosen_in_each fs (place_in c.args.blocks.now (next + sk i)) (place % d i)))
-          ∙ sym (gathered_two c.loop-part.clause (chosen f p (place / product_count fs)) (chosen_in_each fs (behind f p) (place % product_count fs)))
+          ap (λ m. gathered m (chosen_in_each fs (place_below c.args.blocks.now (next + c.count-count.result.skolems)) (place % (c.loop-part.rest / c.count-count.result.clauses)))) c.in_ok-add.ensures.added
+          ∙ (λ i. gathered (gathered c.loop-part.clause (literals_chosen f (place_below (c.loop-part.invariant.kept i) next) (place / d i))) (chosen_in_each fs (place_below c.args.blocks.now (next + sk i)) (place % d i)))
+          ∙ sym (gathered_two c.loop-part.clause (literals_chosen f p (place / product_count fs)) (chosen_in_each fs (behind f p) (place % product_count fs)))
           ∙ ap (gathered c.loop-part.clause) (sym list)
           ∙ c.loop-part.invariant.made;
       kept = c.in_ok-add.ensures.kept ∙ c.loop-part.invariant.kept;
@@ -333,6 +333,6 @@ add_in_each-returns-clause-added t c =
     (let fs : List Form = forms_of c.args.sign c.args.parts.now in
     let can = can_take fs c.args.next c.args.place c.args.rest c.requires.can c.requires.exact in
     let none = drop_past c.args.parts.now c.loop-part.part-index c.loop-part-test.false in
-    sym (ap (λ us. gathered c.loop-part.clause (chosen_in_each (forms_of c.args.sign us) (place_in c.args.blocks.now c.loop-part.next) c.loop-part.place)) none)
+    sym (ap (λ us. gathered c.loop-part.clause (chosen_in_each (forms_of c.args.sign us) (place_below c.args.blocks.now c.loop-part.next) c.loop-part.place)) none)
     ∙ c.loop-part.invariant.made
-    ∙ ap (gathered c.args.clause.now) (sym (some_chosen fs (place_in c.args.blocks.now c.args.next) c.args.place can.within)))
+    ∙ ap (gathered c.args.clause.now) (sym (some_chosen fs (place_below c.args.blocks.now c.args.next) c.args.place can.within)))

@@ -2,7 +2,7 @@ use Rattle.std.proofs.Common.{◌≡◌, ◌+◌, ◌*◌, max, drop}
 use denote.Param.Weighed.{most}
 use Rattle.normal_form.specs.Choices.{chosen_in_one, chosen_in_each}
 use Rattle.normal_form.specs.Gathering.{gathered}
-use Rattle.normal_form.specs.Blocks.{place_in}
+use Rattle.normal_form.specs.Blocks.{place_below}
 use Rattle.normal_form.proofs.Finding.{CanFind, CanTake, forms_of}
 use Rattle.formulas.specs.Trees.{tree_size}
 use Rattle.normal_form.proofs.walk.+walk.Given as goal
@@ -34,7 +34,7 @@ decreases-add_in_one l = 3 * most (λ t. tree_size t + 1) l.parts.now + 1
 abbrev pub invariant-add_in_one-loop-part : goal.invariant-add_in_one-loop-part
 invariant-add_in_one-loop-part l = record {
   can : CanFind (forms_of l.fn.sign (drop l.part-index l.parts)) l.next l.place;
-  same : chosen_in_one (forms_of l.fn.sign (drop l.part-index l.parts)) (place_in l.fn.blocks l.next) l.place ≡ chosen_in_one (forms_of l.fn.sign l.parts) (place_in l.fn.blocks l.fn.next) l.fn.place;
+  same : chosen_in_one (forms_of l.fn.sign (drop l.part-index l.parts)) (place_below l.fn.blocks l.next) l.place ≡ chosen_in_one (forms_of l.fn.sign l.parts) (place_below l.fn.blocks l.fn.next) l.fn.place;
   kept : l.blocks ≡ l.fn.blocks;
   as_before : l.clause ≡ l.fn.clause;
 }
@@ -45,6 +45,6 @@ decreases-add_in_each l = 3 * most (λ t. tree_size t + 1) l.parts.now + 1
 abbrev pub invariant-add_in_each-loop-part : goal.invariant-add_in_each-loop-part
 invariant-add_in_each-loop-part l = record {
   can : CanTake (forms_of l.fn.sign (drop l.part-index l.parts)) l.next l.place l.rest;
-  made : gathered l.clause (chosen_in_each (forms_of l.fn.sign (drop l.part-index l.parts)) (place_in l.fn.blocks l.next) l.place) ≡ gathered l.fn.clause (chosen_in_each (forms_of l.fn.sign l.parts) (place_in l.fn.blocks l.fn.next) l.fn.place);
+  made : gathered l.clause (chosen_in_each (forms_of l.fn.sign (drop l.part-index l.parts)) (place_below l.fn.blocks l.next) l.place) ≡ gathered l.fn.clause (chosen_in_each (forms_of l.fn.sign l.parts) (place_below l.fn.blocks l.fn.next) l.fn.place);
   kept : l.blocks ≡ l.fn.blocks;
 }

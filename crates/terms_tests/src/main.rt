@@ -1,0 +1,77 @@
+//! Worked examples of symbols, terms, clauses, instances, the order, unifiers, parts and steps. A row of standard input is
+//! one example with the answer that it must have; rows that have another one are printed, and how many rows there were.
+#![tactic(auto)]
+
+mod clauses;
+mod instances;
+mod makers;
+mod order;
+mod parts;
+mod rows;
+mod sets;
+mod steps;
+mod unifiers;
+
+use rows::Row;
+use std::alloc::{AllocError, Global};
+use std::io;
+
+/// Whether a row about terms or clauses has its answer.
+fn is_right_below(alloc: Global, row: &Row) -> Result<bool, AllocError> {
+    match row.text(0) {
+        "push" => clauses::push(alloc, row),
+        "number" => clauses::numbered(alloc, row),
+        "distinct" => clauses::distinct(alloc, row),
+        "ordered" => clauses::ordered(alloc, row),
+        "variant" => clauses::variants(alloc, row),
+        "instance" => instances::instances(alloc, row),
+        "replaced" => instances::replacement(alloc, row),
+        "apply" => instances::applied(alloc, row),
+        "truth" => instances::truth(alloc, row),
+        _ => sets::alone(alloc, row),
+    }
+}
+
+/// Whether a row about the order, unifiers or parts has its answer.
+fn is_right_beside(alloc: Global, row: &Row) -> Result<bool, AllocError> {
+    match row.text(0) {
+        "order" => order::order(alloc, row),
+        "heads" => order::heads(alloc, row),
+        "maximal" => order::maximal_place(alloc, row),
+        "eligible" => order::eligible_place(alloc, row),
+        "unify" => unifiers::unified(alloc, row),
+        "match" => unifiers::matched(alloc, row),
+        "unify_arguments" => unifiers::unified_arguments(alloc, row),
+        "match_arguments" => unifiers::matched_arguments(alloc, row),
+        "match_on" => unifiers::matched_on(alloc, row),
+        "chain" => unifiers::chains(alloc, row),
+        _ => is_right_below(alloc, row),
+    }
+}
+
+/// Whether the row has its answer; one whose first word is none of those that are known has none.
+fn is_right(alloc: Global, row: &Row) -> Result<bool, AllocError> {
+    match row.text(0) {
+        "parts" => parts::parts(alloc, row),
+        "side" => parts::side(alloc, row),
+        "negation" => parts::negated(alloc, row),
+        "in_order" => parts::ordered(alloc, row),
+        "conclude" => steps::concluded(alloc, row),
+        "proof" => steps::proof(alloc, row),
+        _ => is_right_beside(alloc, row),
+    }
+}
+
+fn main(rt: HostRuntime) -> io::Result<()> {
+    let mut count: u32 = 0;
+    for line in rt.lines(rt.alloc()) {
+        let line = line?;
+        count = count.wrapping_add(1);
+        let row = Row::split(rt.alloc(), line.as_str(), ' ')?;
+        if !is_right(rt.alloc(), &row)? {
+            println!(rt; "another answer: {line}")?;
+        }
+    }
+    println!(rt; "{count} rows")?;
+    Ok(())
+}
