@@ -1,40 +1,26 @@
 -- Keys of atoms and masks of clauses, what is filed under them, and what is found there.
-use Rattle.std.specs.Prelude.{◌≡◌, ◌⊎◌, ℕ, Bool, ◌+◌, ◌*◌, ◌<◌, ◌≤◌, ◌%◌, ◌^◌, ◌==◌, true, List, [], ◌∷◌, ◌++◌, fold, map, Some, slice_get, bit_and, bit_or, Contains}
-use Rattle.spl_terms.specs.declared.term.Term.{Term, Term-F, fold-Term}
-use Rattle.spl_terms.specs.declared.term.Term.TheOpen as layer
+use Rattle.std.specs.Prelude.{◌≡◌, ◌⊎◌, ℕ, Bool, ◌+◌, ◌<◌, ◌≤◌, ◌%◌, ◌^◌, ◌==◌, true, List, [], ◌∷◌, ◌++◌, fold, map, Some, slice_get, bit_and, bit_or, Contains}
 use Rattle.spl_terms.specs.declared.atom.Atom.{Atom}
-use Rattle.spl_terms.specs.declared.atom.Atom.TheVariants.{Holds, Equal}
 use Rattle.spl_terms.specs.declared.clause.Part.{Part}
 use Rattle.spl_terms.specs.declared.clause.Part.TheVariants.{Constraint, Antecedent, Succedent}
 use Rattle.spl_terms.specs.declared.clause.Clause.{Clause}
 use Rattle.spl_terms.specs.Clauses.{is_same, part_of}
+use Rattle.spl_terms.specs.Hashes.{atom_hash}
 use Rattle.spl_terms.specs.Lists.{numbered}
 use Rattle.clause_filing.specs.declared.filing.Entry.{Entry}
 
 -- ---- keys of atoms
 
--- a word is added to a hash as in the hash of Fowler, Noll and Vo
-abbrev pub mixed : ℕ → ℕ → ℕ
-mixed hash word = ((hash * 1099511628211) % 2 ^ 64 + word) % 2 ^ 64
-
-abbrev pub hash_step : Term-F ℕ → ℕ
-hash_step (layer.Var v) = mixed 1 v
-hash_step (layer.App f hashes) = fold mixed (mixed 2 f.number) hashes
-
-abbrev pub term_hash : Term → ℕ
-term_hash = fold-Term ℕ hash_step
-
 -- equal atoms have one key, and so have equations whose sides are exchanged
 abbrev pub key : ℕ → Atom → ℕ
-key side (Holds p ts) = fold mixed (mixed side p.number) (map term_hash ts)
-key side (Equal s t) = side
+key side a = (atom_hash a + side) % 2 ^ 64
 
 -- the side of the atoms before the arrow, and of those after it
 abbrev pub before_arrow : ℕ
-before_arrow = 3
+before_arrow = 0
 
 abbrev pub after_arrow : ℕ
-after_arrow = 4
+after_arrow = 1
 
 abbrev pub side : Part → ℕ
 side Constraint = before_arrow

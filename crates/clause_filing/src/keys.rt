@@ -1,54 +1,22 @@
 //! Keys of atoms and masks of clauses.
-ghost use Rattle.std.specs.Prelude.{◌≡◌, fold, map};
-ghost use Rattle.clause_filing.specs.Filings.{mixed, term_hash, key, clause_key, bit_of, with_bits, clause_mask, is_within};
+ghost use Rattle.std.specs.Prelude.{◌≡◌};
+ghost use Rattle.clause_filing.specs.Filings.{key, clause_key, bit_of, with_bits, clause_mask, is_within};
 
-use spl_terms::{Atom, Clause, Term};
+use spl_terms::{Atom, Clause, atom_hash};
 
 // ---- keys of atoms
 
 /// The side of atoms of the constraint and the antecedent.
-pub const BEFORE_ARROW: u64 = 3;
+pub const BEFORE_ARROW: u64 = 0;
 
 /// The side of atoms of the succedent.
-pub const AFTER_ARROW: u64 = 4;
+pub const AFTER_ARROW: u64 = 1;
 
-/// The hash with another word added, by the multiplication of Fowler, Noll and Vo.
-fn mixed(hash: u64, word: u64) -> u64
-    ensures { result ≡ mixed hash word }
-{
-    hash.wrapping_mul(1_099_511_628_211).wrapping_add(word)
-}
-
-#[cycle(hash)]
-fn term_hash(term: &Term) -> u64
-    ensures { result ≡ term_hash term.now }
-{
-    match term {
-        Term::Var(v) => mixed(1, u64::from(*v)),
-        Term::App(f, args) => with_terms(mixed(2, u64::from(f.number)), args.as_slice()),
-    }
-}
-
-/// The hash with the hashes of the terms added.
-#[cycle(hash)]
-fn with_terms(hash: u64, terms: &[Term]) -> u64
-    ensures { result ≡ fold mixed hash (map term_hash terms.now) }
-{
-    let mut hash = hash;
-    for term in terms {
-        hash = mixed(hash, term_hash(term));
-    }
-    hash
-}
-
-/// The key of an atom of this side; equal atoms have one key.
+/// The key of an atom of this side; equal atoms have one key, and so have equations whose sides are exchanged.
 pub fn key(side: u64, atom: &Atom) -> u64
     ensures { result ≡ key side atom.now }
 {
-    match atom {
-        Atom::Holds(p, args) => with_terms(mixed(side, u64::from(p.number)), args.as_slice()),
-        Atom::Equal(_, _) => side,
-    }
+    atom_hash(atom).wrapping_add(side)
 }
 
 /// The key of the clause's first atom, where the succedent comes first; 0 for the empty clause.

@@ -47,8 +47,9 @@ fn with_terms(start: u64, terms: &[Term]) -> u64
     hash
 }
 
-/// The number under which the atom is filed: atoms that are the same up to exchanged sides have one number.
-fn atom_hash(atom: &Atom) -> u64
+/// The number under which an atom is filed: atoms that are the same up to exchanged sides have one number (by the
+/// multiplication of Fowler, Noll and Vo).
+pub fn atom_hash(atom: &Atom) -> u64
     ensures { result ≡ atom_hash atom.now }
 {
     match atom {
