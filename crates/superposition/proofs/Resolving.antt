@@ -20,7 +20,7 @@ use Rattle.proof_steps.specs.declared.step.Rule.{Rule}
 use Rattle.proof_steps.specs.declared.step.Rule.TheVariants.{Resolve}
 use Rattle.proof_steps.specs.declared.step.Line.{Line}
 use Rattle.proof_steps.specs.Steps.{may_resolve, resolvent, resolved, resolution, has_entries, states}
-use Rattle.proof_steps.proofs.Steps.{may_resolve-below}
+use Rattle.proof_steps.specs.StepLaws.{may_resolve-below}
 use Rattle.calculus.specs.declared.kept.Kept.{Kept}
 use Rattle.calculus.specs.Inferences.{clause_of, variables_of_both, first_part, second_part, by_entries, by_unifier_of_both, atom_unifier, eligible_in, renamed_apart, resolutions}
 use Rattle.calculus.proofs.Lifting.{first_fits, second_fits, atom_below, all_below, renamed_apart_below}
