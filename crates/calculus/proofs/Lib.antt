@@ -1,4 +1,3 @@
-pub mod Lifting
 pub mod Superposing
 pub mod Own
 pub mod Words

@@ -20,7 +20,7 @@ use Rattle.proof_steps.specs.Steps.{when, states, has_entries, without, reflexed
 use Rattle.spl_terms.specs.InOrder.{variables}
 use Rattle.calculus.specs.Inferences.{clause_of, by_entries, by_unifier}
 use Rattle.spl_terms.specs.VariableLaws.{has}
-use Rattle.calculus.proofs.Lifting.{atom_below, all_below, length-unifier}
+use Rattle.calculus.specs.LiftingLaws.{atom_below, all_below, length-unifier}
 use Rattle.std.proofs.lemmas.Bool.{ne_eqb}
 use Rattle.calculus.proofs.Superposing.{sides-replace, sides-inner}
 use Rattle.calculus.specs.Found.{ReflectionsAreFound, EqualityFactoringsAreFound}

@@ -33,7 +33,7 @@ use Rattle.dep_sets.specs.Assumptions.{united}
 use Rattle.proof_steps.specs.declared.step.Line.{Line}
 use Rattle.proof_steps.specs.declared.step.Rule.TheVariants.{Paramodulate}
 use Rattle.spl_terms.specs.VariableLaws.{has}
-use Rattle.calculus.proofs.Lifting.{entry-take, agree_term, atom_below, renamed_apart_below, all_below, length-unifier, first_fits, second_fits, second_agrees}
+use Rattle.calculus.specs.LiftingLaws.{entry-take, agree_term, atom_below, renamed_apart_below, all_below, length-unifier, first_fits, second_fits, second_agrees}
 
 -- ---- subterms of instances
 

@@ -1,5 +1,6 @@
 pub mod Inferences
 pub mod InferenceLaws
+pub mod LiftingLaws
 pub mod Found
 pub mod Reductions
 pub mod ReductionLaws

@@ -3,7 +3,7 @@
 ghost use Rattle.std.specs.Prelude.{◌≡◌, ◌<◌, ◌≤◌, ◌++◌, [], ◌∷◌, true, false, ℕ, fold, length, slice_get, Some, IfOk, OnOk, OnErr, IfErr};
 ghost use Rattle.std.specs.List.{list_any, list_all};
 ghost use Rattle.spl_terms.specs.declared.clause.Clause.{Clause};
-ghost use Rattle.spl_terms.specs.Clauses.{clause_symbols, with_atom, CanStand, FitsOrBig};
+ghost use Rattle.spl_terms.specs.Clauses.{clause_symbols, FitsOrBig};
 ghost use Rattle.dfg_reader.specs.declared.formula.Formula.{out-Formula};
 ghost use Rattle.dfg_reader.specs.declared.problem.Entry.{Entry};
 ghost use Rattle.dfg_reader.specs.GroundClauses.{is_true_literal, is_false_layer, negated_part, with_negated, with_literal, IsWithinLimit, no_literals, literals, formula_clauses, entry_clauses, clauses, is_small, are_within_limits, HasLimits};
@@ -52,23 +52,6 @@ fn negated_part(atom: &Atom) -> Part
     }
 }
 
-/// Adds a copy of the atom to a part.
-fn push_copy(
-    alloc: Global,
-    clause: &mut ClauseBuilder,
-    part: Part,
-    atom: &Atom,
-) -> Result<(), PushError>
-    requires { CanStand part atom.now }
-    ensures ok { OnOk result (clause.new ≡ with_atom clause.old part atom.now) }
-    ensures big { FitsOrBig (clause_symbols (with_atom clause.old part atom.now)) result }
-{
-    match atom.copy(alloc) {
-        Ok(copied) => clause.push(part, copied),
-        Err(_) => Err(PushError::Memory),
-    }
-}
-
 /// Adds the atom of a negated literal; `not(true)` adds nothing.
 fn push_negated(alloc: Global, clause: &mut ClauseBuilder, inner: &Formula) -> Result<(), PushError>
     requires { clause_symbols clause.old ≤ 4096 }
@@ -76,7 +59,7 @@ fn push_negated(alloc: Global, clause: &mut ClauseBuilder, inner: &Formula) -> R
     ensures big { FitsOrBig (clause_symbols (with_negated clause.old (out-Formula inner.now))) result }
 {
     match inner {
-        Formula::Atom(atom) => push_copy(alloc, clause, negated_part(atom), atom),
+        Formula::Atom(atom) => clause.push_copy(alloc, negated_part(atom), atom),
         _ => Ok(()),
     }
 }
@@ -92,7 +75,7 @@ fn push_literal(
     ensures big { FitsOrBig (clause_symbols (with_literal clause.old literal.now)) result }
 {
     match literal {
-        Formula::Atom(atom) => push_copy(alloc, clause, Part::Succedent, atom),
+        Formula::Atom(atom) => clause.push_copy(alloc, Part::Succedent, atom),
         Formula::Not(inner) => push_negated(alloc, clause, inner.get()),
         _ => Ok(()),
     }

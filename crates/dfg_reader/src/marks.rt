@@ -77,6 +77,7 @@ fn kind_is_word(word: Word, kind: TokenKind) -> bool
     ensures { result ≡ kind_is_word word kind }
 {
     match kind {
+        TokenKind::Word(Word::Plain) => spelled(word).is_empty(),
         TokenKind::Word(found) => spelled(found) == spelled(word),
         _ => false,
     }

@@ -2,6 +2,7 @@
 
 ghost use Rattle.std.specs.Prelude.{◌≡◌};
 ghost use Rattle.dfg_tokens.specs.Words.{spelling, spelling_within_lists, first_word, word_of};
+ghost use Rattle.dfg_tokens.specs.declared.word.TheConstants.{WORDS};
 
 /// What an identifier means to the grammar, by its spelling. `Plain` is any other identifier.
 #[derive(Clone, Copy, PartialEq, Eq, Debug)]
@@ -148,6 +149,71 @@ const WORDS: [Word; 45] = [
     Word::False,
 ];
 
+// The same words by their length, underscores counted, each list in the order of `WORDS`.
+
+const WORDS_TO_4: [Word; 8] = [
+    Word::Name,
+    Word::Date,
+    Word::Cnf,
+    Word::Dnf,
+    Word::Not,
+    Word::And,
+    Word::Or,
+    Word::True,
+];
+
+const WORDS_OF_5: [Word; 5] = [
+    Word::Logic,
+    Word::Sorts,
+    Word::Equiv,
+    Word::Equal,
+    Word::False,
+];
+
+const WORDS_OF_6: [Word; 6] = [
+    Word::Author,
+    Word::Status,
+    Word::Axioms,
+    Word::Clause,
+    Word::Forall,
+    Word::Exists,
+];
+
+const WORDS_TO_10: [Word; 7] = [
+    Word::Version,
+    Word::Unknown,
+    Word::Functions,
+    Word::Predicates,
+    Word::Operators,
+    Word::Implies,
+    Word::Implied,
+];
+
+const WORDS_OF_11: [Word; 7] = [
+    Word::EndProblem,
+    Word::EndOfList,
+    Word::Description,
+    Word::Satisfiable,
+    Word::Quantifiers,
+    Word::Translpairs,
+    Word::Conjectures,
+];
+
+const WORDS_FROM_12: [Word; 12] = [
+    Word::BeginProblem,
+    Word::ListOfDescriptions,
+    Word::ListOfSymbols,
+    Word::ListOfClauses,
+    Word::ListOfDeclarations,
+    Word::ListOfFormulae,
+    Word::ListOfProof,
+    Word::ListOfSettings,
+    Word::ListOfTerms,
+    Word::ListOfSpecialFormulae,
+    Word::ListOfIncludes,
+    Word::Unsatisfiable,
+];
+
 /// The words that are no names.
 pub const RESERVED: [Word; 11] = [
     Word::Forall,
@@ -238,10 +304,30 @@ fn find_word(words: &[Word], text: &[u8]) -> Word
     Word::Plain
 }
 
+/// The words that are about as long as the text: among them are all that are spelled so.
+fn words_as_long(text: &[u8]) -> &'static [Word]
+    ensures { first_word result.now text.now ≡ first_word WORDS text.now }
+{
+    let len = text.len();
+    if len < 5 {
+        &WORDS_TO_4
+    } else if len < 6 {
+        &WORDS_OF_5
+    } else if len < 7 {
+        &WORDS_OF_6
+    } else if len < 11 {
+        &WORDS_TO_10
+    } else if len < 12 {
+        &WORDS_OF_11
+    } else {
+        &WORDS_FROM_12
+    }
+}
+
 /// The word of this spelling; `Plain` where no word is spelled so.
 #[tactic(auto, unfolding(crate::specs::Words::word_of))]
 pub fn word_of(text: &[u8]) -> Word
     ensures { result ≡ word_of text.now }
 {
-    find_word(&WORDS, text)
+    find_word(words_as_long(text), text)
 }

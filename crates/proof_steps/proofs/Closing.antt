@@ -18,7 +18,8 @@ use Rattle.proof_steps.proofs.Resolution.{at_ground, empty-false}
 use Rattle.proof_steps.proofs.Cut.{cut, itself, by_cases}
 use Rattle.proof_steps.proofs.BothParts.{left_component, follows-joined, joined_turned}
 use Rattle.proof_steps.proofs.Negations.{follows-negation}
-use Rattle.proof_steps.proofs.Premises.{Contains-cons_cases, Contains-nil}
+use Rattle.proof_steps.specs.StepLaws.{Contains-cons_cases}
+use Rattle.proof_steps.proofs.Premises.{Contains-nil}
 
 -- ---- what a side assumes
 

@@ -1,5 +1,5 @@
 -- What sets of assumptions assume: more where there are more assumptions.
-use Rattle.std.proofs.Common.{◌≡◌, ◌⊎◌, inl, inr, ℕ, zero, suc, Bool, true, false, not, ◌&&◌, ◌||◌, List, [], ◌∷◌, ◌++◌, Contains, Some, option_map, option_and_then, refl, sym, ap, subst, ◌∙◌, arith}
+use Rattle.std.proofs.Common.{◌≡◌, ◌⊎◌, inl, inr, ℕ, suc, Bool, true, false, not, ◌&&◌, ◌||◌, List, [], ◌∷◌, ◌++◌, Contains, Some, option_map, option_and_then, refl, sym, ap, subst, ◌∙◌, arith}
 use Rattle.std.specs.Option.{option_map_or}
 use Rattle.std.proofs.lemmas.List.Elements.{Contains-append_left, Contains-append_right, Contains-append_cases}
 use Rattle.spl_terms.specs.declared.clause.Clause.{Clause}
@@ -23,10 +23,6 @@ Contains-cons x xs = (0, omega arith, refl)
 
 pub Contains-cons_later : {A : Type 0} (x : A) (xs : List A) (y : A) → Contains xs y → Contains (x ∷ xs) y
 Contains-cons_later x xs y (k, h, e) = (suc k, omega (arith, h), e)
-
-pub Contains-cons_cases : {A : Type 0} (x : A) (xs : List A) (y : A) → Contains (x ∷ xs) y → (x ≡ y) ⊎ Contains xs y
-Contains-cons_cases x xs y (zero, h, e) = inl e
-Contains-cons_cases x xs y (suc k, h, e) = inr (k, omega (arith, h), e)
 
 pub Contains-nil : {A : Type 0} (y : A) → Contains {X = A} [] y → ⊥
 Contains-nil y (k, h, e) = omega (arith, h)

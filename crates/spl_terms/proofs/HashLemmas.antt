@@ -108,3 +108,10 @@ not_filed atoms places x filed first none = none_of (λ b. is_same x b) atoms by
         by_test : (t : Bool) → nat_lt k 8 ≡ t → is_same x a ≡ false
         by_test true h = none_at (λ b. is_same x b) 8 atoms first k a (ltb-true k 8 h) e
         by_test false h = behind k a (ltb-false k 8 h) e (is_same x a) refl
+
+pub only_first : (atoms : List Atom) (places : Places) (x : Atom) → AreFiled atoms places → None ≡ get nat_eq places (atom_hash x) → list_any (λ b. is_same x b) (take 8 atoms) ≡ list_any (λ b. is_same x b) atoms
+only_first atoms places x filed none = by _ refl
+  where
+    by : (t : Bool) → list_any (λ b. is_same x b) (take 8 atoms) ≡ t → list_any (λ b. is_same x b) (take 8 atoms) ≡ list_any (λ b. is_same x b) atoms
+    by true e = e ∙ sym (any_first (λ b. is_same x b) 8 atoms e)
+    by false e = e ∙ sym (not_filed atoms places x filed e none)

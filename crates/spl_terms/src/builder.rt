@@ -1,8 +1,8 @@
 //! A clause that is built atom by atom, with its count of symbols kept and repeated atoms found by hashes.
 
-ghost use Rattle.std.specs.Prelude.{◌≡◌, ◌≤◌, ◌++◌, [], ◌∷◌, true, false, fold, map, length, take, OnOk, OnErr};
+ghost use Rattle.std.specs.Prelude.{◌≡◌, ◌+◌, ◌≤◌, ◌++◌, [], ◌∷◌, true, false, min, fold, map, length, take, OnOk, OnErr};
 ghost use Rattle.std.specs.List.{list_any};
-ghost use Rattle.spl_terms.specs.Clauses.{clause_symbols, is_same, with_atom, part_of, CanStand, FitsOrBig, IsEmpty};
+ghost use Rattle.spl_terms.specs.Clauses.{atom_symbols, clause_symbols, is_same, with_atom, part_of, CanStand, FitsOrBig, IsEmpty};
 ghost use Rattle.spl_terms.specs.Hashes.{mixed, term_hash, atom_hash, AreFiled};
 
 use crate::atom::{Atom, same_atom};
@@ -104,19 +104,16 @@ fn is_among_first(atoms: &[Atom], atom: &Atom) -> bool
     contains_same(&atoms[..8], atom)
 }
 
-/// Whether one of the atoms is the same: the first eight are compared, and of the others the one that is filed under
-/// the same hash. Where that is another atom, all are.
+/// Whether one of the atoms is the same: the one that is filed under the same hash is looked at first. Where that is
+/// another atom, all are; where none is filed, the first eight.
 fn is_filed(atoms: &[Atom], places: &HashMap<u64, usize>, atom: &Atom) -> bool
     requires many { 8 ≤ length atoms.now }
     requires filed { AreFiled atoms.now places.now }
     ensures { result ≡ list_any (λ b. is_same atom.now b) atoms.now }
 {
-    if is_among_first(atoms, atom) {
-        return true;
-    }
     match places.get(&atom_hash(atom)) {
         Some(place) => is_at(atoms, *place, atom) || contains_same(atoms, atom),
-        None => false,
+        None => is_among_first(atoms, atom),
     }
 }
 
@@ -253,6 +250,31 @@ impl ClauseBuilder {
         }
     }
 
+    /// Adds an atom that is new there, with which the clause has `count` symbols.
+    fn push_new(&mut self, part: Part, atom: Atom, count: u64) -> Result<(), PushError>
+        requires new { list_any (λ b. is_same atom b) (part_of self.old part) ≡ false }
+        requires counted { count ≡ clause_symbols (with_atom self.old part atom) }
+        requires small { count ≤ 4096 }
+        ensures ok { OnOk result (self.new ≡ with_atom self.old part atom) }
+        ensures err { OnErr result (self.new ≡ self.old) }
+        ensures big { FitsOrBig (clause_symbols (with_atom self.old part atom)) result }
+    {
+        match self.parts.push(part, atom) {
+            Ok(()) => {
+                self.symbols = count;
+                Ok(())
+            }
+            Err(_) => Err(PushError::Memory),
+        }
+    }
+
+    /// How many symbols the clause has with the atom added at the end, or the last value of `u64`.
+    fn grown(&self, atom: &Atom) -> u64
+        ensures { result ≡ min (clause_symbols self.now + atom_symbols atom.now) 18446744073709551615 }
+    {
+        self.symbols.saturating_add(atom.symbols())
+    }
+
     /// Adds an atom at the end of a part, unless one that is the same, up to exchanged sides, stands in that part.
     ///
     /// An atom for the constraint has to be of a sort, and one for the antecedent must not be. `Big` comes exactly where
@@ -267,17 +289,34 @@ impl ClauseBuilder {
         if self.parts.contains(part, &atom) {
             return Ok(());
         }
-        let count = self.symbols.saturating_add(atom.symbols());
+        let count = self.grown(&atom);
         if count > 4096 {
             return Err(PushError::Big {
                 symbols: count.min(1_000_000),
             });
         }
-        match self.parts.push(part, atom) {
-            Ok(()) => {
-                self.symbols = count;
-                Ok(())
-            }
+        self.push_new(part, atom, count)
+    }
+
+    /// Adds a copy of the atom, as `push` adds an atom; one that isn't added is not copied.
+    #[tactic(auto, using(crate::proofs::ClauseLemmas::growth))]
+    pub fn push_copy(&mut self, alloc: Global, part: Part, atom: &Atom) -> Result<(), PushError>
+        requires { CanStand part atom.now }
+        ensures ok { OnOk result (self.new ≡ with_atom self.old part atom.now) }
+        ensures err { OnErr result (self.new ≡ self.old) }
+        ensures big { FitsOrBig (clause_symbols (with_atom self.old part atom.now)) result }
+    {
+        if self.parts.contains(part, atom) {
+            return Ok(());
+        }
+        let count = self.grown(atom);
+        if count > 4096 {
+            return Err(PushError::Big {
+                symbols: count.min(1_000_000),
+            });
+        }
+        match atom.copy(alloc) {
+            Ok(copied) => self.push_new(part, copied, count),
             Err(_) => Err(PushError::Memory),
         }
     }

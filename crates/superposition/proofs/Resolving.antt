@@ -20,10 +20,10 @@ use Rattle.proof_steps.specs.declared.step.Rule.{Rule}
 use Rattle.proof_steps.specs.declared.step.Rule.TheVariants.{Resolve}
 use Rattle.proof_steps.specs.declared.step.Line.{Line}
 use Rattle.proof_steps.specs.Steps.{may_resolve, resolvent, resolved, resolution, has_entries, states}
-use Rattle.proof_steps.proofs.Steps.{may_resolve-below}
+use Rattle.proof_steps.specs.StepLaws.{may_resolve-below}
 use Rattle.calculus.specs.declared.kept.Kept.{Kept}
 use Rattle.calculus.specs.Inferences.{clause_of, variables_of_both, first_part, second_part, by_entries, by_unifier_of_both, atom_unifier, eligible_in, renamed_apart, resolutions}
-use Rattle.calculus.proofs.Lifting.{first_fits, second_fits, atom_below, all_below, renamed_apart_below}
+use Rattle.calculus.specs.LiftingLaws.{first_fits, second_fits, atom_below, all_below, renamed_apart_below}
 use Rattle.superposition.specs.Words.{plain, IsAtomBelow, AreAtomsBelow, AreLentBelow, line_of_both, resolve_raised}
 use Rattle.superposition.proofs.Lists.{each_kept, each_numbered, each_mapped}
 

@@ -8,7 +8,7 @@ use Rattle.spl_terms.specs.Terms.{symbol_eq}
 use Rattle.spl_terms.specs.TermLaws.{replace-Var, replace-App, term_variables-App, symbol_eq-true}
 use Rattle.spl_truth.specs.Unifiers.{HasVariablesBelow, ForTermsBelow, IsUnifierOrNone, unifier}
 use Rattle.calculus.specs.Inferences.{atom_unifier}
-use Rattle.calculus.proofs.Lifting.{length-unifier}
+use Rattle.calculus.specs.LiftingLaws.{length-unifier}
 use Rattle.unify.specs.Fitting.{all_fit}
 use Rattle.unify.proofs.FittingLemmas.{fits-App-App}
 use Rattle.unify.proofs.AnswerLemmas.{misfit_exact}

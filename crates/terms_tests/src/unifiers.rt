@@ -64,23 +64,38 @@ pub fn matched_arguments(alloc: Global, row: &Row) -> Result<bool, AllocError> {
     is_answer(alloc, &found, row.text(3))
 }
 
-/// `match_on TERM TERM TERMS TERMS`: whether the lists match only where what the terms bound is undone.
+/// The bindings of the terms' matcher, where the lists match only once these are undone.
+fn bound_before(
+    alloc: Global,
+    pattern: &Term,
+    target: &Term,
+    more: &[Term],
+    clashes: &[Term],
+) -> Result<Option<Subst>, AllocError> {
+    if !has_variables_below(pattern, 2) || !have_variables_below(more, 2) {
+        return Ok(None);
+    }
+    let mut found = Bindings::new(alloc, 2)?;
+    let first = match_term(pattern, target, &mut found)?;
+    let second = match_terms(more, clashes, &mut found)?;
+    let bound = found.entries(alloc, 2)?;
+    found.undo(0);
+    let third = match_terms(more, clashes, &mut found)?;
+    Ok(if first && !second && third {
+        Some(bound)
+    } else {
+        None
+    })
+}
+
+/// `match_on TERM TERM TERMS TERMS TERMS`: what the terms bound, where the lists match only once that is undone.
 pub fn matched_on(alloc: Global, row: &Row) -> Result<bool, AllocError> {
     let pattern = term(alloc, row.text(1))?;
     let target = term(alloc, row.text(2))?;
     let more = terms(alloc, row.text(3))?;
     let clashes = terms(alloc, row.text(4))?;
-    let (more, clashes) = (more.as_slice(), clashes.as_slice());
-    if !has_variables_below(&pattern, 2) || !have_variables_below(more, 2) {
-        return Ok(false);
-    }
-    let mut found = Bindings::new(alloc, 2)?;
-    let first = match_term(&pattern, &target, &mut found)?;
-    let second = match_terms(more, clashes, &mut found)?;
-    let bound = Some(found.entries(alloc, 2)?);
-    found.undo(0);
-    let third = match_terms(more, clashes, &mut found)?;
-    Ok(first && !second && third && is_answer(alloc, &bound, row.text(5))?)
+    let bound = bound_before(alloc, &pattern, &target, more.as_slice(), clashes.as_slice())?;
+    is_answer(alloc, &bound, row.text(5))
 }
 
 /// `f` of twice this variable.

@@ -20,5 +20,11 @@ returns-then-count-gt4096-clause-big c =
     let none : list_any (λ b. is_same c.args.atom b) (part_of c.args.self.now c.args.part) ≡ false =
     ap (λ d. list_any (λ b. is_same c.args.atom b) (part_of d c.args.part)) (sym c.self.view_is) ∙ sym c.contains.ensures ∙ c.if-contains.false in
     let more = with_atom-new c.args.self.now c.args.part c.args.atom none in
-    let same = ap clause_symbols c.self.view_is in
-    (omega (arith, more, same, c.self.invariant.0, c.symbols.ensures, c.saturating_add-count.ensures, c.if-count-gt4096.true), omega (arith, more, same, c.self.invariant.0, c.symbols.ensures, c.saturating_add-count.ensures, c.min.ensures, c.if-count-gt4096.true))
+    (omega (arith, more, c.grown-count.ensures, c.if-count-gt4096.true), omega (arith, more, c.grown-count.ensures, c.min.ensures, c.if-count-gt4096.true))
+
+pub push_new-requires-clause-counted : goal.push_new-requires-clause-counted
+push_new-requires-clause-counted c =
+    let none : list_any (λ b. is_same c.args.atom b) (part_of c.args.self.now c.args.part) ≡ false =
+    ap (λ d. list_any (λ b. is_same c.args.atom b) (part_of d c.args.part)) (sym c.self.view_is) ∙ sym c.contains.ensures ∙ c.if-contains.false in
+    let more = with_atom-new c.args.self.now c.args.part c.args.atom none in
+    omega (arith, more, c.grown-count.ensures, c.if-count-gt4096.false)

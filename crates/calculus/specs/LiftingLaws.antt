@@ -1,5 +1,5 @@
--- Where two eligible atoms have a unifier, there is an inference: its restrictions fit both premises and make the atoms the
--- same.
+-- Laws with their proofs, not definitions that a reader must believe: where two eligible atoms have a unifier, there is an
+-- inference, since its restrictions fit both premises and make the atoms the same.
 use Rattle.std.proofs.Common.{◌≡◌, inl, inr, ℕ, zero, suc, ◌+◌, ◌<◌, true, false, ◌&&◌, ◌==◌, if◌then◌else◌, List, [], ◌∷◌, ◌++◌, length, map, take, drop, get_or, Option, Some, None, MatchOption, option_map, refl, sym, ap, ◌∙◌, subst, arith, eq-eqb, length-take, length-drop}
 use Rattle.std.specs.Prelude.{option_to_list, slice_get, unwrap_or}
 use Rattle.std.specs.List.{flat_map, AllByRecursion}
