@@ -11,6 +11,7 @@ use Rattle.std.proofs.lemmas.List.Sorted.{IsPermutation-map, All-permutation, Co
 use Rattle.spl_terms.specs.Clauses.{clause_symbols}
 use Rattle.proof_steps.specs.declared.step.Line.{Line}
 use Rattle.proof_steps.specs.Steps.{numbered}
+use Rattle.proof_steps.specs.StepLaws.{Contains-cons_cases}
 use Rattle.case_journal.specs.declared.event.Entry.{Entry}
 use Rattle.case_journal.specs.Journal.{Setting, ledger, steps}
 use Rattle.case_journal.specs.Picking.{is_passive}
@@ -157,10 +158,6 @@ these_all s past m numbers count q long all h =
     not_passive true h = absurd (h refl)
     not_passive false h = refl
 
-in_rest : {A : Type 0} (x : A) (xs : List A) (y : A) → Contains (x ∷ xs) y → (x ≡ y) ⊎ Contains xs y
-in_rest x xs y (zero, less, is) = inl is
-in_rest x xs y (suc k, less, is) = inr (k, omega (arith, less), is)
-
 -- after a clause that is not passive was dropped
 pub first_drops : (s : Setting) (past : List Entry) (m count : ℕ) (q : CaseQueue) (x : Reverse (ℕ × ℕ)) (heap : BinaryHeap (Reverse (ℕ × ℕ)) Global) → HasFirst s past m count q
     → is_passive s past m x.0.1 ≡ false → IsPermutation (heap_items q.lightest) (x ∷ heap_items heap) → IsHeap lighter_first (heap_items heap)
@@ -169,7 +166,7 @@ first_drops s past m count q x heap h out moves order =
     let p = IsPermutation-map (λ (y : Reverse (ℕ × ℕ)). y.0) (heap_items q.lightest) (x ∷ heap_items heap) moves in
     let rest = entries (record { lightest = heap; oldest = q.oldest }) in
     record {
-      complete = λ i k within passes at. elim (in_rest x.0 rest (clause_symbols k.stated.clause, i) (Contains-permutation (entries q) (x.0 ∷ rest) (clause_symbols k.stated.clause, i) p (h.complete i k within passes at))) [
+      complete = λ i k within passes at. elim (Contains-cons_cases x.0 rest (clause_symbols k.stated.clause, i) (Contains-permutation (entries q) (x.0 ∷ rest) (clause_symbols k.stated.clause, i) p (h.complete i k within passes at))) [
         | inl e ↦ let bad : true ≡ false = sym passes ∙ (ap (λ (y : ℕ × ℕ). is_passive s past m y.1) (sym e) ∙ out) in absurd (cc)
         | inr c ↦ c
       ];

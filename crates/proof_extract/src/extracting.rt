@@ -10,7 +10,7 @@ ghost use Rattle.proof_extract.specs.Contradictions.{IsContradictory};
 
 use crate::marking::{ancestors, counts};
 use crate::renumbering::new_line;
-use proof_steps::Line;
+use proof_steps::{Line, proofs_refute};
 use spl_terms::Items;
 use split_tree::Table;
 use std::alloc::{AllocError, Global};
@@ -89,6 +89,7 @@ pub fn extract(alloc: Global, table: &Table, clause: u32) -> Result<Items<Line>,
     ensures count { IfOk result (λ proof. length proof ≤ clause) }
 {
     table.laws();
+    proofs_refute();
     let marks = ancestors(alloc, table, clause)?;
     let counts = counts(alloc, marks.as_slice())?;
     marked_lines(alloc, table, marks.as_slice(), counts.as_slice())

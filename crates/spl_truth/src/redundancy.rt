@@ -1,16 +1,9 @@
 //! Tests of clauses that need not be kept: tautologies, and clauses contained in others.
 ghost use Rattle.std.specs.Prelude.{◌≡◌, count_by, true};
-ghost use Rattle.std.specs.List.{list_any};
 ghost use Rattle.spl_terms.specs.Clauses.{is_same};
 ghost use Rattle.spl_truth.specs.Redundancy.{has_equal_sides, is_tautology, is_contained, is_subclause, Subsumes};
 
-use spl_terms::{Atom, Clause, same_atom};
-
-fn contains_same(atoms: &[Atom], atom: &Atom) -> bool
-    ensures { result ≡ list_any (is_same atom.now) atoms.now }
-{
-    atoms.iter().any(|other| same_atom(atom, other))
-}
+use spl_terms::{Atom, Clause, contains_same, same_atom};
 
 fn has_equal_sides(atom: &Atom) -> bool
     ensures { result ≡ has_equal_sides atom.now }

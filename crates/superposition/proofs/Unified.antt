@@ -10,8 +10,7 @@ use Rattle.spl_truth.specs.Unifiers.{HasVariablesBelow, ForTermsBelow, IsUnifier
 use Rattle.calculus.specs.Inferences.{atom_unifier}
 use Rattle.calculus.specs.LiftingLaws.{length-unifier}
 use Rattle.unify.specs.Fitting.{all_fit}
-use Rattle.unify.proofs.FittingLemmas.{fits-App-App}
-use Rattle.unify.proofs.AnswerLemmas.{misfit_exact}
+use Rattle.unify.specs.FittingLaws.{fits-App-App, misfit_exact}
 use Rattle.superposition.specs.Words.{IsAtomBelow}
 
 pub ruleset replace_laws = (replace-Var, replace-App)

@@ -15,7 +15,7 @@ use Rattle.unify.specs.Bindings.{substitution, IsTriangular}
 use Rattle.unify.specs.Standing.{StandForUnifier}
 use Rattle.unify.proofs.BelowLemmas.{below_from, below_to, are_below_from, application_below, zip_below}
 use Rattle.unify.proofs.TriangularLemmas.{stands}
-use Rattle.unify.proofs.FittingLemmas.{fits-App-App, misfits, none_general}
+use Rattle.unify.specs.FittingLaws.{fits-App-App, GeneralLaw, misfit_exact}
 use Rattle.unify.proofs.SolvingLemmas.{split_leads}
 
 -- ---- the solution
@@ -36,9 +36,6 @@ both (Err e) P Q R f p q = tt
 -- the law of the steps, for two terms
 abbrev pub StepsLaw : Type 0
 StepsLaw = (vars : ℕ) (a b : Term) → HasVariablesBelow vars a → HasVariablesBelow vars b → (r : Option (ℕ → Term)) → Leads Var ((a, b) ∷ []) r ↔ (solution vars Var ((a, b) ∷ []) ≡ r)
-
-abbrev pub GeneralLaw : Type 0
-GeneralLaw = (vars : ℕ) (a b : Term) → HasVariablesBelow vars a → HasVariablesBelow vars b → MatchOption (unifier vars a b) (HasNoUnifier a b) (λ entries. IsMostGeneral a b (entry entries))
 
 module _ (vars : ℕ) (a b : Term) (below_a : HasVariablesBelow vars a) (below_b : HasVariablesBelow vars b) where
   pub found_exact : StepsLaw → (found : Option (ℕ × List (ℕ × Term))) → Leads Var ((a, b) ∷ []) (option_map (λ (u : ℕ × List (ℕ × Term)). substitution u.1) found) → IfSome found (λ u. (u.0 ≡ vars) × IsTriangular u.0 u.1) → MatchOption found (unifier vars a b ≡ None) (StandForUnifier vars a b)
@@ -102,11 +99,8 @@ none_before f None e = refl
 none_before f (Some s) e = absurd (cc)
 
 module _ (vars : ℕ) (a b : Term) (below_a : HasVariablesBelow vars a) (below_b : HasVariablesBelow vars b) (general_law : GeneralLaw) (apart : fits a b ≡ false) where
-  pub misfit_exact : None ≡ unifier vars a b
-  misfit_exact = sym (none_general a b (misfits a b apart) (unifier vars a b) (general_law vars a b below_a below_b))
-
   pub misfit_leads : StepsLaw → Leads Var ((a, b) ∷ []) None
-  misfit_leads law = (law vars a b below_a below_b None).1 (none_before (entries_below vars) _ (sym misfit_exact))
+  misfit_leads law = (law vars a b below_a below_b None).1 (none_before (entries_below vars) _ (sym (misfit_exact vars a b below_a below_b general_law apart)))
 
 pub arguments_apart : (f : Symbol) (ss ts : List Term) (test : Bool) → test ≡ all_fit ss ts → test ≡ false → fits (App f ss) (App f ts) ≡ false
 arguments_apart f ss ts test is apart = fits-App-App f ss f ts ∙ ap (λ b. b && all_fit ss ts) (symbol_eq-refl f) ∙ sym is ∙ apart

@@ -7,67 +7,15 @@ use Rattle.spl_terms.specs.declared.term.Term.{Term, Var, App}
 use Rattle.spl_terms.specs.declared.term.Term.TheViews.{outs-Var, outs-App}
 use Rattle.spl_terms.specs.Terms.{symbol_eq, all_pass, replace}
 use Rattle.spl_terms.specs.TermLaws.{symbol_eq-refl, Each, term_induction, fold-Var, fold-App, term_symbols-App, term_symbols-positive, replace-App}
-use Rattle.spl_truth.specs.Truth.{entry}
 use Rattle.spl_truth.specs.Matching.{HasNoMatcher}
-use Rattle.spl_truth.specs.Unifiers.{IsUnifier, HasNoUnifier, IsMostGeneral}
 use Rattle.spl_truth.specs.OccurrenceLaws.{same_arguments, same_symbols, no_application}
-use Rattle.unify.specs.Fitting.{may_be, fitting_step, fits, all_fit, may_become, covering_step, covers, all_cover}
-
-pub fits-Var : (v : ℕ) (t : Term) → fits (Var v) t ≡ true
-fits-Var v t = ap (λ (h : Term → Bool). h t) (fold-Var fitting_step v)
-
-pub fits-App-Var : (f : Symbol) (ss : List Term) (w : ℕ) → fits (App f ss) (Var w) ≡ true
-fits-App-Var f ss w = ap (λ (h : Term → Bool). h (Var w)) (fold-App fitting_step f ss) ∙ ap (may_be f (map fits ss)) (outs-Var w)
-
-all_pass-fits : (ss ts : List Term) → all_pass (map fits ss) ts ≡ all_fit ss ts
-all_pass-fits [] [] = refl
-all_pass-fits [] (t ∷ ts) = refl
-all_pass-fits (s ∷ ss) [] = refl
-all_pass-fits (s ∷ ss) (t ∷ ts) = ap (λ b. fits s t && b) (all_pass-fits ss ts)
-
-pub fits-App-App : (f : Symbol) (ss : List Term) (g : Symbol) (ts : List Term) → fits (App f ss) (App g ts) ≡ (symbol_eq f g && all_fit ss ts)
-fits-App-App f ss g ts =
-    ap (λ (h : Term → Bool). h (App g ts)) (fold-App fitting_step f ss)
-    ∙ ap (may_be f (map fits ss)) (outs-App g ts)
-    ∙ ap (λ b. symbol_eq f g && b) (all_pass-fits ss ts)
+use Rattle.unify.specs.Fitting.{fits, all_fit, may_become, covering_step, covers, all_cover}
+use Rattle.unify.specs.FittingLaws.{fits-Var, fits-App-Var, fits-App-App}
 
 pub ruleset fits_laws = (fits-Var, fits-App-Var, fits-App-App, term_symbols-App, term_symbols-positive)
 
 pub fitting_apps : (s t : Term) (f g : Symbol) (ss ts as' bs : List Term) (q r : Bool) → s ≡ App f ss → t ≡ App g ts → q ≡ symbol_eq f g → q ≡ true → as' ≡ ss → bs ≡ ts → r ≡ all_fit as' bs → r ≡ fits s t
 fitting_apps s t f g ss ts as' bs q r p1 p2 p3 p4 p5 p6 p7 = cc (fits-App-App f ss g ts, true-and (all_fit ss ts))
-
--- ---- terms with a unifier fit
-
-module _ (g : ℕ → Term) where
-  each_fits : (ss ts : List Term) → Each (λ s. (t : Term) → replace g s ≡ replace g t → fits s t ≡ true) ss → map (replace g) ss ≡ map (replace g) ts → all_fit ss ts ≡ true
-  each_fits [] [] each e = refl
-  each_fits [] (t ∷ ts) each e = absurd (cc)
-  each_fits (s ∷ ss) [] each e = absurd (cc)
-  each_fits (s ∷ ss) (t ∷ ts) each e =
-      let a : replace g s ≡ replace g t = cc in
-      let b : map (replace g) ss ≡ map (replace g) ts = cc in
-      rw (each.0 t a, each_fits ss ts each.1 b)
-
-  pub unified_fit : (s t : Term) → IsUnifier g s t → fits s t ≡ true
-  unified_fit =
-      term_induction (λ s. (t : Term) → replace g s ≡ replace g t → fits s t ≡ true)
-      (λ v t e. fits-Var v t)
-      (λ f ss each. term_induction (λ t. replace g (App f ss) ≡ replace g t → fits (App f ss) t ≡ true)
-      (λ w e. fits-App-Var f ss w)
-      (λ h ts _ e.
-      let made = sym (replace-App g f ss) ∙ e ∙ replace-App g h ts in
-      let heads : f ≡ h = same_symbols _ _ _ _ made in
-      let one : symbol_eq f h ≡ true = ap (symbol_eq f) (sym heads) ∙ symbol_eq-refl f in
-      let two = each_fits ss ts each (same_arguments _ _ _ _ made) in
-      fits-App-App f ss h ts ∙ rw (one, two)))
-
-pub misfits : (a b : Term) → fits a b ≡ false → HasNoUnifier a b
-misfits a b e g same = false≢true (sym e ∙ unified_fit g a b same)
-
--- where there is no unifier, a most general one is none
-pub none_general : (a b : Term) → HasNoUnifier a b → (o : Option (List Term)) → MatchOption o (HasNoUnifier a b) (λ entries. IsMostGeneral a b (entry entries)) → o ≡ None
-none_general a b never None h = refl
-none_general a b never (Some entries) h = absurd (never (entry entries) h.unifies)
 
 -- ---- a term covers its instances
 

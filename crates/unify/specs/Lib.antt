@@ -4,4 +4,5 @@ pub mod Matches
 pub mod Solving
 pub mod Standing
 pub mod Fitting
+pub mod FittingLaws
 pub mod Marks

@@ -37,7 +37,7 @@ returns-clause-refuted c =
     let input = c.args.table.now.setting.input in
     let lines = ledger c.args.table.now.setting c.args.table.now.past in
     if_ok c.marked_lines.result (IsProofOf lines c.args.clause) (λ p. IsContradictory lines c.args.clause → Refuted input)
-    (λ p is contradictory. proof_refutes input lines p c.args.clause c.laws.ensures.concluded is contradictory) (returns-clause-proof c)
+    (λ p is contradictory. proof_refutes c.proofs_refute.ensures input lines p c.args.clause c.laws.ensures.concluded is contradictory) (returns-clause-proof c)
 
 pub returns-clause-count : goal.returns-clause-count
 returns-clause-count c =

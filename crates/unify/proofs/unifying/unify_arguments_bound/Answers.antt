@@ -1,8 +1,8 @@
 use Rattle.std.proofs.Common.{sym, ◌∙◌}
 use Rattle.std.proofs.lemmas.Result.{IfOk-weaker}
 use Rattle.spl_terms.specs.declared.term.Term.{App}
-use Rattle.unify.proofs.AnswerLemmas.{both, found_exact, found_general, application_has, arguments_equations, arguments_lead, misfit_exact, arguments_apart, as_many_fit}
-use Rattle.unify.proofs.FittingLemmas.{misfits}
+use Rattle.unify.proofs.AnswerLemmas.{both, found_exact, found_general, application_has, arguments_equations, arguments_lead, arguments_apart, as_many_fit}
+use Rattle.unify.specs.FittingLaws.{misfits, misfit_exact}
 use Rattle.unify.proofs.unifying.unify_arguments_bound.Goals as goal
 
 pub returns-then-not-all_fit-clause-exact : goal.returns-then-not-all_fit-clause-exact

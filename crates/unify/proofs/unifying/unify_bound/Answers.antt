@@ -1,7 +1,7 @@
 use Rattle.std.proofs.Common.{sym, ◌∙◌}
 use Rattle.std.proofs.lemmas.Result.{IfOk-weaker}
-use Rattle.unify.proofs.AnswerLemmas.{both, found_exact, found_general, one_equation, one_leads, misfit_exact, misfit_leads}
-use Rattle.unify.proofs.FittingLemmas.{misfits}
+use Rattle.unify.proofs.AnswerLemmas.{both, found_exact, found_general, one_equation, one_leads, misfit_leads}
+use Rattle.unify.specs.FittingLaws.{misfits, misfit_exact}
 use Rattle.unify.proofs.unifying.unify_bound.Goals as goal
 
 pub solution-requires : goal.solution-requires
