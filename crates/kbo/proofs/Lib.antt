@@ -5,3 +5,4 @@ pub mod TallyLemmas
 pub mod OrderingLemmas
 pub mod MeasureLemmas
 pub mod PlaceLemmas
+pub mod StableLemmas

@@ -3,6 +3,7 @@
 
 mod comparing;
 mod heads;
+mod laws;
 mod measuring;
 mod order;
 mod ordering;
@@ -13,6 +14,7 @@ mod view;
 mod walking;
 
 pub use comparing::{compare, compare_views};
+pub use laws::order_is_stable;
 pub use order::Order;
 pub use places::{eligible, first_unsolved, maximal};
 pub use view::View;

@@ -25,6 +25,7 @@ use Rattle.calculus.specs.declared.kept.Kept.{Kept}
 use Rattle.calculus.specs.Inferences.{clause_of, variables_of_both, first_part, second_part, by_entries, by_unifier_of_both, atom_unifier, eligible_in, renamed_apart, resolutions}
 use Rattle.calculus.specs.LiftingLaws.{first_fits, second_fits, atom_below, all_below, renamed_apart_below}
 use Rattle.superposition.specs.Words.{plain, IsAtomBelow, AreAtomsBelow, AreLentBelow, line_of_both, resolve_raised}
+use Rattle.superposition.proofs.Stating.{stated_line, both_line}
 use Rattle.superposition.proofs.Lists.{each_kept, each_numbered, each_mapped}
 
 pub resolved-there : (i : ℕ) (part : Part) (j : ℕ) (p q : Clause) → may_resolve i part j p q ≡ true → resolved i part j p q ≡ Some (in_order (resolvent i part j p q))
@@ -43,24 +44,6 @@ parts_fit p q first both u s t n m long is other =
 
 -- ---- lines
 
-stated_made : {A : Type 0} (made : Option Clause) (g : Clause → A) → option_map (λ c. g (in_order c)) made ≡ option_map g (option_map in_order made)
-stated_made None g = refl
-stated_made (Some c) g = refl
-
-again : {A B : Type 0} (o : Option Clause) (f : Clause → A) (g : A → B) → option_map (λ c. g (f c)) o ≡ option_map g (option_map f o)
-again None f g = refl
-again (Some c) f g = refl
-
-abbrev stated_line : Kept → Kept → Rule → Statement → Line
-stated_line p q rule s = record { step = record { rule = rule; parents = p.number ∷ q.number ∷ [] }; stated = s }
-
--- what a rule concludes of two premises, as it is appended
-pub both_line : (p q : Kept) (rule : Rule) (made o : Option Clause) → option_map in_order made ≡ o → option_map (line_of_both p q rule) made ≡ option_map (stated_line p q rule) (option_map (λ c. states c (united p.statement.deps q.statement.deps)) o)
-both_line p q rule made o e =
-    stated_made made (λ c. stated_line p q rule (states c (united p.statement.deps q.statement.deps)))
-    ∙ ap (option_map (λ c. stated_line p q rule (states c (united p.statement.deps q.statement.deps)))) e
-    ∙ again o (λ c. states c (united p.statement.deps q.statement.deps)) (stated_line p q rule)
-
 pub resolved_line : (part : Part) (p q : Kept) (i j : ℕ) (a b : Atom) (first both : ℕ) (u : List Term) (s t : Subst) (made : Option Clause) →
     first ≡ variables (clause_of p) → both ≡ variables_of_both p q → atom_unifier both a b ≡ Some u → s.terms ≡ take first u → t.terms ≡ drop first u → option_map in_order made ≡ resolution i part j s.terms t.terms (clause_of p) (clause_of q) →
     option_to_list (option_map (line_of_both p q (Resolve i part j s t)) made) ≡ resolve_raised part p q (i, a) (j, b)
@@ -70,20 +53,20 @@ resolved_line part p q i j a b first both u s t made n m unified is other e =
     let known : atom_unifier (variables_of_both p q) a b ≡ Some u = ap (λ k. atom_unifier k a b) (sym m) ∙ unified in
     let deps = united p.statement.deps q.statement.deps in
     ap option_to_list (both_line p q (Resolve i part j s t) made _ e)
-    ∙ (λ k. option_to_list (option_map (stated_line p q (Resolve i part j (left k) (right k))) (option_map (λ c. states c deps) (resolution i part j (left k).terms (right k).terms (clause_of p) (clause_of q)))))
+    ∙ (λ k. option_to_list (option_map (stated_line (Resolve i part j (left k) (right k)) (p.number ∷ q.number ∷ [])) (option_map (λ c. states c deps) (resolution i part j (left k).terms (right k).terms (clause_of p) (clause_of q)))))
     ∙ sym (ap (by_unifier_of_both p q (λ s t. Resolve i part j s t)) known)
 
 -- ---- variables of the eligible atoms
 
-atom_fits : (vars : ℕ) (a : Atom) → ((v : ℕ) → has v (atom_variables a) ≡ true → v < vars) → IsAtomBelow vars a
+pub atom_fits : (vars : ℕ) (a : Atom) → ((v : ℕ) → has v (atom_variables a) ≡ true → v < vars) → IsAtomBelow vars a
 atom_fits vars a h = All-from_recursion (λ v. v < vars) (atom_variables a) (all_below vars (atom_variables a) h)
 
-first_atoms_below : (p q : Kept) → IsInOrder (clause_of p) → AreAtomsBelow (variables_of_both p q) (eligible_in p Succedent)
+pub first_atoms_below : (p q : Kept) → IsInOrder (clause_of p) → AreAtomsBelow (variables_of_both p q) (eligible_in p Succedent)
 first_atoms_below p q o =
     each_kept (λ x. IsAtomBelow (variables_of_both p q) x.1) _ (enumerate_from 0 (clause_of p).succedent)
     (each_numbered (IsAtomBelow (variables_of_both p q)) 0 (clause_of p).succedent (λ k a e. atom_fits (variables_of_both p q) a (λ v h. (let low : v < variables (clause_of p) = atom_below (clause_of p) o Succedent k a e v h in omega (arith, low)))))
 
-lent : (vars : ℕ) (places : List (ℕ × Bor Atom)) → AreAtomsBelow vars (plain places) → AreLentBelow vars places
+pub lent : (vars : ℕ) (places : List (ℕ × Bor Atom)) → AreAtomsBelow vars (plain places) → AreLentBelow vars places
 lent vars [] h = tt
 lent vars (x ∷ places) h = (h.0, lent vars places h.1)
 
@@ -92,7 +75,7 @@ places_below p q both places lends o n is same =
     let all : AreAtomsBelow (variables_of_both p q) (plain lends) = subst (AreAtomsBelow (variables_of_both p q)) (sym (ap plain same ∙ is)) (first_atoms_below p q o) in
     lent both lends (subst (λ k. AreAtomsBelow k (plain lends)) (sym n) all)
 
-abbrev apart : Kept → ℕ × Atom → ℕ × Atom
+abbrev pub apart : Kept → ℕ × Atom → ℕ × Atom
 apart p x = (x.0, renamed_apart p x.1)
 
 second_atoms_below : (part : Part) (p q : Kept) → IsInOrder (clause_of q) → AreAtomsBelow (variables_of_both p q) (map (apart p) (eligible_in q part))
@@ -102,7 +85,7 @@ second_atoms_below part p q o =
     (each_numbered (λ b. IsAtomBelow (variables_of_both p q) (renamed_apart p b)) 0 (part_of (clause_of q) part) (λ k b e. atom_fits (variables_of_both p q) (renamed_apart p b) (renamed_apart_below p q o part k b e))))
 
 -- the raised atoms as they are held
-raised_are : (part : Part) (p q : Kept) (first : ℕ) (others lends : List (ℕ × Bor Atom)) (atoms : List (ℕ × Atom)) → first ≡ variables (clause_of p) → plain others ≡ eligible_in q part → lends ≡ others → atoms ≡ map (λ x. (x.0, replace_in_atom (λ v. Var (first + v)) x.1)) (plain lends) → atoms ≡ map (apart p) (eligible_in q part)
+pub raised_are : (part : Part) (p q : Kept) (first : ℕ) (others lends : List (ℕ × Bor Atom)) (atoms : List (ℕ × Atom)) → first ≡ variables (clause_of p) → plain others ≡ eligible_in q part → lends ≡ others → atoms ≡ map (λ x. (x.0, replace_in_atom (λ v. Var (first + v)) x.1)) (plain lends) → atoms ≡ map (apart p) (eligible_in q part)
 raised_are part p q first others lends atoms n is same made = made ∙ (λ k. map (λ x. (x.0, replace_in_atom (λ v. Var (n k + v)) x.1)) ((ap plain same ∙ is) k))
 
 pub atoms_below : (part : Part) (p q : Kept) (first both : ℕ) (others lends : List (ℕ × Bor Atom)) (atoms held : List (ℕ × Atom)) → IsInOrder (clause_of q) → both ≡ variables_of_both p q → first ≡ variables (clause_of p) → plain others ≡ eligible_in q part → lends ≡ others → atoms ≡ map (λ x. (x.0, replace_in_atom (λ v. Var (first + v)) x.1)) (plain lends) → held ≡ atoms → AreAtomsBelow both held

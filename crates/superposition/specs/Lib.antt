@@ -1,2 +1,4 @@
 pub mod Appending
 pub mod Words
+pub mod Readings
+pub mod Walks

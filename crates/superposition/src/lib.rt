@@ -5,11 +5,20 @@
 #![tactic(auto)]
 
 mod appending;
+mod equations;
 mod error;
+mod inferring;
+mod ordering;
+mod own;
+mod pairs;
 mod premises;
 mod resolution;
+mod rewriting;
 mod unifiers;
 
 pub use calculus::Kept;
 pub use error::InferError;
+pub use inferring::{infer_pair, infer_self};
+pub use own::{equality_factorings, factorings, reflections};
 pub use resolution::resolutions;
+pub use rewriting::superpositions;

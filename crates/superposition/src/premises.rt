@@ -3,7 +3,8 @@ ghost use Rattle.std.specs.Prelude.{◌≡◌, ◌+◌, ◌≤◌, [], ◌∷◌
 ghost use Rattle.spl_truth.specs.Places.{is_eligible};
 ghost use Rattle.spl_terms.specs.declared.term.Term.{Var};
 ghost use Rattle.spl_terms.specs.Terms.{replace};
-ghost use Rattle.spl_terms.specs.Clauses.{clause_symbols, replace_in_atom};
+ghost use Rattle.std.specs.List.{enumerate_from};
+ghost use Rattle.spl_terms.specs.Clauses.{clause_symbols, part_of, replace_in_atom};
 ghost use Rattle.spl_terms.specs.InOrder.{variables};
 ghost use Rattle.calculus.specs.Inferences.{clause_of, eligible_in};
 ghost use Rattle.superposition.specs.Words.{plain};
@@ -63,6 +64,25 @@ pub(crate) fn eligible_in<'a>(
     }
     for place in 0..atoms.len() {
         add_eligible(premise, part, place as u32, &atoms[place], &mut places)?;
+    }
+    Ok(places)
+}
+
+/// All atoms of a part, each with its place.
+pub(crate) fn atoms_in<'a>(
+    alloc: Global,
+    clause: &'a Clause,
+    part: Part,
+) -> Result<Vec<(u32, &'a Atom)>, AllocError>
+    ensures { IfOk result (λ places. plain places.items ≡ enumerate_from 0 (part_of clause.now part)) }
+{
+    let atoms = clause.part(part);
+    let mut places = Vec::with_capacity(alloc, atoms.len())?;
+    if atoms.len() > 4_294_967_295 {
+        return Err(AllocError);
+    }
+    for place in 0..atoms.len() {
+        places.push((place as u32, &atoms[place]))?;
     }
     Ok(places)
 }

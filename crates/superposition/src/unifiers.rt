@@ -2,13 +2,13 @@
 ghost use Rattle.std.specs.Prelude.{◌≡◌, take, drop, option_map, IfOk};
 ghost use Rattle.spl_terms.specs.declared.term.Term.{Term};
 ghost use Rattle.spl_truth.specs.Unifiers.{HasVariablesBelow, unifier};
-ghost use Rattle.calculus.specs.Inferences.{atom_unifier};
+ghost use Rattle.calculus.specs.Inferences.{atom_unifier, sides_unifier};
 ghost use Rattle.superposition.specs.Words.{IsAtomBelow};
 
 use spl_terms::{Atom, Items, Term};
 use spl_truth::{Subst, laws};
 use std::alloc::{AllocError, Global};
-use unify::unify_arguments;
+use unify::{unify, unify_arguments};
 
 /// The unifier of two predicate atoms, if they have one. Their heads are compared first.
 pub(crate) fn unifier_of_atoms(
@@ -30,6 +30,21 @@ pub(crate) fn unifier_of_atoms(
             unify_arguments(alloc, args.as_slice(), others.as_slice(), vars)
         }
         _ => Ok(None),
+    }
+}
+
+/// The unifier of the sides of an equation, if they have one.
+pub(crate) fn unifier_of_sides(
+    alloc: Global,
+    atom: &Atom,
+    vars: u32,
+) -> Result<Option<Subst>, AllocError>
+    requires { IsAtomBelow vars atom.now }
+    ensures { IfOk result (λ found. option_map (λ s. s.terms) found ≡ sides_unifier vars atom.now) }
+{
+    match atom {
+        Atom::Holds(_, _) => Ok(None),
+        Atom::Equal(left, right) => unify(alloc, left, right, vars),
     }
 }
 

@@ -1,0 +1,15 @@
+use Rattle.std.proofs.Common.{drop}
+use Rattle.std.specs.List.{flat_map}
+use Rattle.std.proofs.Common.{ℕ}
+use Rattle.std.specs.Borrow.{Bor}
+use Rattle.spl_terms.specs.declared.atom.Atom.{Atom}
+use Rattle.proof_steps.specs.declared.step.Line.{Line}
+use Rattle.superposition.specs.Words.{IsAtomBelow}
+use Rattle.superposition.specs.Readings.{factor_with}
+use Rattle.superposition.proofs.Composing.{LeadsOn}
+use Rattle.superposition.proofs.own.factor_each.Given as goal
+
+abbrev pub invariant-loop-k : goal.invariant-loop-k
+invariant-loop-k l =
+    LeadsOn (flat_map (λ y. factor_with l.p (l.first.0, l.first.1.now) (y.0, y.1.now)) l.atoms) l.fn.out.items
+    (flat_map (λ y. factor_with l.p (l.first.0, l.first.1.now) (y.0, y.1.now)) (drop l.k l.atoms)) l.out.items

@@ -1,0 +1,295 @@
+//! The inferences of one clause alone: factoring, equality resolution, equality factoring.
+ghost use Rattle.std.specs.Prelude.{◌≡◌, ◌≤◌, true, option_map, IfOk};
+ghost use Rattle.std.specs.List.{flat_map};
+ghost use Rattle.spl_terms.specs.Clauses.{clause_symbols, in_order};
+ghost use Rattle.spl_terms.specs.InOrder.{IsInOrder, variables};
+ghost use Rattle.spl_truth.specs.Unifiers.{HasVariablesBelow};
+ghost use Rattle.proof_steps.specs.Steps.{has_entries, reflection, equality_factoring};
+ghost use Rattle.proof_steps.specs.declared.step.Rule.TheVariants.{Reflex};
+ghost use Rattle.calculus.specs.Inferences.{clause_of, by_unifier, sides_unifier, factorings, reflections, equality_factorings};
+ghost use Rattle.superposition.specs.Appending.{Appended};
+ghost use Rattle.superposition.specs.Words.{IsAtomBelow, AreLentBelow};
+ghost use Rattle.superposition.specs.Readings.{reading_of, AreLeftSidesBelow, factor_with, factor_apart};
+
+use crate::appending::append_from;
+use crate::equations::{Equation, readings_of};
+use crate::error::InferError;
+use crate::ordering::is_not_below;
+use crate::premises::{atoms_in, eligible_in, variables};
+use crate::unifiers::{unifier_of_atoms, unifier_of_sides};
+use calculus::Kept;
+use proof_steps::{Line, Rule, equality_factored, reflexed};
+use spl_terms::{Atom, Clause, Part};
+use spl_truth::{Subst, instance};
+use std::alloc::{AllocError, Global};
+use unify::unify;
+
+// ---- factoring
+
+/// Factors an atom of the succedent with an atom at another place, if they have a unifier.
+fn factor(
+    alloc: Global,
+    p: &Kept,
+    vars: u32,
+    first: (u32, &Atom),
+    second: (u32, &Atom),
+    out: &mut Vec<Line>,
+) -> Result<(), InferError>
+    requires vars { vars ≡ variables (clause_of p.now) }
+    requires first_below { IsAtomBelow vars first.1.now }
+    requires second_below { IsAtomBelow vars second.1.now }
+    ensures { Appended (factor_with p.now (first.entry.0, first.entry.1.now) (second.entry.0, second.entry.1.now)) out.old.items out.new.items result }
+{
+    let (i, a) = first;
+    let (j, b) = second;
+    if i == j {
+        return Ok(());
+    }
+    let Some(s) = unifier_of_atoms(alloc, a, b, vars)? else {
+        return Ok(());
+    };
+    let made = instance(alloc, &s, &p.statement.clause)?;
+    append_from(alloc, p, Some(made), Rule::Factor { s }, out)
+}
+
+/// Factors an atom of the succedent with each of these at another place.
+fn factor_each(
+    alloc: Global,
+    p: &Kept,
+    vars: u32,
+    first: (u32, &Atom),
+    atoms: &[(u32, &Atom)],
+    out: &mut Vec<Line>,
+) -> Result<(), InferError>
+    requires vars { vars ≡ variables (clause_of p.now) }
+    requires first_below { IsAtomBelow vars first.1.now }
+    requires atoms_below { AreLentBelow vars atoms.now }
+    ensures { Appended (flat_map (λ y. factor_with p.now (first.entry.0, first.entry.1.now) (y.0, y.1.now)) atoms.now) out.old.items out.new.items result }
+{
+    for k in 0..atoms.len() {
+        if let Err(error) = factor(alloc, p, vars, first, atoms[k], out) {
+            return Err(error);
+        }
+    }
+    Ok(())
+}
+
+/// Factors each of these atoms of the succedent with each of the others.
+fn factor_all(
+    alloc: Global,
+    p: &Kept,
+    vars: u32,
+    places: &[(u32, &Atom)],
+    atoms: &[(u32, &Atom)],
+    out: &mut Vec<Line>,
+) -> Result<(), InferError>
+    requires vars { vars ≡ variables (clause_of p.now) }
+    requires places_below { AreLentBelow vars places.now }
+    requires atoms_below { AreLentBelow vars atoms.now }
+    ensures { Appended (flat_map (λ x. flat_map (λ y. factor_with p.now (x.0, x.1.now) (y.0, y.1.now)) atoms.now) places.now) out.old.items out.new.items result }
+{
+    for k in 0..places.len() {
+        if let Err(error) = factor_each(alloc, p, vars, places[k], atoms, out) {
+            return Err(error);
+        }
+    }
+    Ok(())
+}
+
+/// Appends what each eligible predicate atom of the succedent gives with each other one, in the order of their places.
+///
+/// # Errors
+///
+/// As of `resolutions`.
+pub fn factorings(alloc: Global, p: &Kept, out: &mut Vec<Line>) -> Result<(), InferError>
+    requires in_order { IsInOrder (clause_of p.now) }
+    requires size { clause_symbols (clause_of p.now) ≤ 4096 }
+    ensures { Appended (factorings p.now) out.old.items out.new.items result }
+{
+    let places = eligible_in(alloc, p, Part::Succedent)?;
+    let atoms = atoms_in(alloc, &p.statement.clause, Part::Succedent)?;
+    let vars = variables(alloc, &p.statement.clause)?;
+    factor_all(alloc, p, vars, places.as_slice(), atoms.as_slice(), out)
+}
+
+// ---- equality resolution
+
+/// What equality resolution concludes by this substitution, before it is put in order.
+fn reflected(alloc: Global, p: &Clause, j: u32, s: &Subst) -> Result<Option<Clause>, AllocError>
+    requires { has_entries s.now.terms p.now ≡ true }
+    ensures { IfOk result (λ made. option_map in_order made ≡ reflection j s.now.terms p.now) }
+{
+    let made = instance(alloc, s, p)?;
+    Ok(reflexed(j, made))
+}
+
+/// Removes an equation of the antecedent, if its sides have a unifier.
+fn reflect(
+    alloc: Global,
+    p: &Kept,
+    vars: u32,
+    place: (u32, &Atom),
+    out: &mut Vec<Line>,
+) -> Result<(), InferError>
+    requires vars { vars ≡ variables (clause_of p.now) }
+    requires below { IsAtomBelow vars place.1.now }
+    ensures { Appended (by_unifier p.now (Reflex place.entry.0) (sides_unifier (variables (clause_of p.now)) place.entry.1.now)) out.old.items out.new.items result }
+{
+    let (j, atom) = place;
+    let Some(s) = unifier_of_sides(alloc, atom, vars)? else {
+        return Ok(());
+    };
+    let made = reflected(alloc, &p.statement.clause, j, &s)?;
+    append_from(alloc, p, made, Rule::Reflex { j, s }, out)
+}
+
+/// Removes each of these equations of the antecedent.
+fn reflect_all(
+    alloc: Global,
+    p: &Kept,
+    vars: u32,
+    places: &[(u32, &Atom)],
+    out: &mut Vec<Line>,
+) -> Result<(), InferError>
+    requires vars { vars ≡ variables (clause_of p.now) }
+    requires below { AreLentBelow vars places.now }
+    ensures { Appended (flat_map (λ x. by_unifier p.now (Reflex x.0) (sides_unifier (variables (clause_of p.now)) x.1.now)) places.now) out.old.items out.new.items result }
+{
+    for k in 0..places.len() {
+        if let Err(error) = reflect(alloc, p, vars, places[k], out) {
+            return Err(error);
+        }
+    }
+    Ok(())
+}
+
+/// Appends what equality resolution concludes for each eligible equation of the antecedent, in the order of their places.
+///
+/// # Errors
+///
+/// As of `resolutions`.
+pub fn reflections(alloc: Global, p: &Kept, out: &mut Vec<Line>) -> Result<(), InferError>
+    requires in_order { IsInOrder (clause_of p.now) }
+    requires size { clause_symbols (clause_of p.now) ≤ 4096 }
+    ensures { Appended (reflections p.now) out.old.items out.new.items result }
+{
+    let places = eligible_in(alloc, p, Part::Antecedent)?;
+    let vars = variables(alloc, &p.statement.clause)?;
+    reflect_all(alloc, p, vars, places.as_slice(), out)
+}
+
+// ---- equality factoring
+
+/// What equality factoring concludes by this substitution, before it is put in order.
+fn factored(
+    alloc: Global,
+    p: &Clause,
+    e: Equation,
+    d: Equation,
+    s: &Subst,
+) -> Result<Option<Clause>, AllocError>
+    requires { has_entries s.now.terms p.now ≡ true }
+    ensures { IfOk result (λ made. option_map in_order made ≡ equality_factoring e.entry.place e.entry.right d.entry.place d.entry.right s.now.terms p.now) }
+{
+    let first = instance(alloc, s, p)?;
+    equality_factored(alloc, e.place, e.right, d.place, d.right, first)
+}
+
+/// Factors an equation with one at another place, if their left sides have a unifier by which the left side of the first
+/// isn't below its right side.
+fn factor_equation(
+    alloc: Global,
+    p: &Kept,
+    vars: u32,
+    e: Equation,
+    d: Equation,
+    out: &mut Vec<Line>,
+) -> Result<(), InferError>
+    requires vars { vars ≡ variables (clause_of p.now) }
+    requires e_below { HasVariablesBelow vars e.left_side.now }
+    requires d_below { HasVariablesBelow vars d.left_side.now }
+    ensures { Appended (factor_apart p.now (reading_of e.entry) (reading_of d.entry)) out.old.items out.new.items result }
+{
+    if e.place == d.place {
+        return Ok(());
+    }
+    let Some(s) = unify(alloc, e.left_side, d.left_side, vars)? else {
+        return Ok(());
+    };
+    let high = is_not_below(alloc, &s, e.left_side, e.right_side)?;
+    if !high {
+        return Ok(());
+    }
+    let made = factored(alloc, &p.statement.clause, e, d, &s)?;
+    let rule = Rule::EqFactor {
+        i: e.place,
+        i_right: e.right,
+        j: d.place,
+        j_right: d.right,
+        s,
+    };
+    append_from(alloc, p, made, rule, out)
+}
+
+/// Factors an equation with each of these at another place.
+fn factor_equation_with_each(
+    alloc: Global,
+    p: &Kept,
+    vars: u32,
+    e: Equation,
+    others: &[Equation],
+    out: &mut Vec<Line>,
+) -> Result<(), InferError>
+    requires vars { vars ≡ variables (clause_of p.now) }
+    requires e_below { HasVariablesBelow vars e.left_side.now }
+    requires others_below { AreLeftSidesBelow vars others.now }
+    ensures { Appended (flat_map (λ d. factor_apart p.now (reading_of e.entry) (reading_of d)) others.now) out.old.items out.new.items result }
+{
+    for k in 0..others.len() {
+        if let Err(error) = factor_equation(alloc, p, vars, e, others[k], out) {
+            return Err(error);
+        }
+    }
+    Ok(())
+}
+
+/// Factors each of these equations with each of the others.
+fn factor_equations(
+    alloc: Global,
+    p: &Kept,
+    vars: u32,
+    equations: &[Equation],
+    others: &[Equation],
+    out: &mut Vec<Line>,
+) -> Result<(), InferError>
+    requires vars { vars ≡ variables (clause_of p.now) }
+    requires equations_below { AreLeftSidesBelow vars equations.now }
+    requires others_below { AreLeftSidesBelow vars others.now }
+    ensures { Appended (flat_map (λ e. flat_map (λ d. factor_apart p.now (reading_of e) (reading_of d)) others.now) equations.now) out.old.items out.new.items result }
+{
+    for k in 0..equations.len() {
+        if let Err(error) = factor_equation_with_each(alloc, p, vars, equations[k], others, out) {
+            return Err(error);
+        }
+    }
+    Ok(())
+}
+
+/// Appends what each eligible equation of the succedent, in both directions, gives with each other equation there, in both
+/// directions.
+///
+/// # Errors
+///
+/// As of `resolutions`.
+pub fn equality_factorings(alloc: Global, p: &Kept, out: &mut Vec<Line>) -> Result<(), InferError>
+    requires in_order { IsInOrder (clause_of p.now) }
+    requires size { clause_symbols (clause_of p.now) ≤ 4096 }
+    ensures { Appended (equality_factorings p.now) out.old.items out.new.items result }
+{
+    let places = eligible_in(alloc, p, Part::Succedent)?;
+    let atoms = atoms_in(alloc, &p.statement.clause, Part::Succedent)?;
+    let equations = readings_of(alloc, places.as_slice())?;
+    let others = readings_of(alloc, atoms.as_slice())?;
+    let vars = variables(alloc, &p.statement.clause)?;
+    factor_equations(alloc, p, vars, equations.as_slice(), others.as_slice(), out)
+}
