@@ -16,9 +16,11 @@ pub fn instances(alloc: Global, row: &Row) -> Result<bool, AllocError> {
         return Ok(false);
     };
     let made = instance(alloc, &subst, &given)?;
-    Ok(same_clause(&applied, &made)
-        && is_ground(&made) == row.says(4)
-        && is_clause(alloc, Some(made), row.text(3))?)
+    Ok(
+        same_clause(&applied, &made)
+            && is_ground(&made) == row.says(4)
+            && is_clause(alloc, Some(made), row.text(3))?,
+    )
 }
 
 /// `replaced TERMS TERM TERM`
@@ -48,7 +50,9 @@ pub fn applied(alloc: Global, row: &Row) -> Result<bool, AllocError> {
 pub fn truth(alloc: Global, row: &Row) -> Result<bool, AllocError> {
     let assignment = atoms(alloc, row.text(1))?;
     let given = clause(alloc, row.text(2))?;
-    Ok(holds(&[], &given) == row.says(3)
-        && holds(assignment.as_slice(), &given) == row.says(4)
-        && is_tautology(&given) == row.says(5))
+    Ok(
+        holds(&[], &given) == row.says(3)
+            && holds(assignment.as_slice(), &given) == row.says(4)
+            && is_tautology(&given) == row.says(5),
+    )
 }

@@ -1,8 +1,9 @@
-//! Worked examples of symbols, terms, clauses, instances, the order, unifiers, parts and steps. A row of standard input is
-//! one example with the answer that it must have; rows that have another one are printed, and how many rows there were.
+//! Worked examples of symbols, terms, clauses, instances, the order, unifiers, parts, steps and inferences. A row of standard
+//! input is one example with the answer that it must have; rows that have another one are printed, and how many rows there were.
 #![tactic(auto)]
 
 mod clauses;
+mod inferences;
 mod instances;
 mod makers;
 mod order;
@@ -57,6 +58,10 @@ fn is_right(alloc: Global, row: &Row) -> Result<bool, AllocError> {
         "negation" => parts::negated(alloc, row),
         "in_order" => parts::ordered(alloc, row),
         "conclude" => steps::concluded(alloc, row),
+        "pair" => inferences::pair(alloc, row),
+        "own" => inferences::own(alloc, row),
+        "sorts" => inferences::sorts(alloc, row),
+        "unsolved" => inferences::unsolved(alloc, row),
         "proof" => steps::proof(alloc, row),
         _ => is_right_beside(alloc, row),
     }

@@ -42,9 +42,11 @@ pub fn order(alloc: Global, row: &Row) -> Result<bool, AllocError> {
     let first = term(alloc, row.text(1))?;
     let second = term(alloc, row.text(2))?;
     let wanted = named(row.text(3));
-    Ok(standing(&first, &second) == Some(wanted)
-        && standing(&second, &first) == Some(turned(wanted))
-        && standing(&first, &first) == Some(Order::Equal))
+    Ok(
+        standing(&first, &second) == Some(wanted)
+            && standing(&second, &first) == Some(turned(wanted))
+            && standing(&first, &first) == Some(Order::Equal),
+    )
 }
 
 /// The term of a symbol over the constant.

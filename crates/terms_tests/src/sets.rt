@@ -19,9 +19,11 @@ fn changed(alloc: Global) -> Result<Items<u32>, AllocError> {
 pub fn lists(alloc: Global) -> Result<bool, AllocError> {
     let mut numbers = changed(alloc)?;
     let last = numbers.pop();
-    Ok(last == Some(4)
-        && numbers.into_vec().as_slice() == [0, 3, 2, 5].as_slice()
-        && Items::<u32>::new(alloc).is_empty())
+    Ok(
+        last == Some(4)
+            && numbers.into_vec().as_slice() == [0, 3, 2, 5].as_slice()
+            && Items::<u32>::new(alloc).is_empty(),
+    )
 }
 
 fn at(split: u32, side: u32) -> Assumption {
@@ -42,12 +44,14 @@ pub fn sets(alloc: Global) -> Result<bool, AllocError> {
     let deps = joined(alloc, &[at(7, 1), at(2, 2), at(7, 1), at(2, 1)])?;
     let fewer = deps.without(at(2, 1))?;
     let copied = deps.copy()?;
-    Ok(deps.as_slice() == [at(2, 1), at(2, 2), at(7, 1)].as_slice()
-        && fewer.as_slice() == [at(2, 2), at(7, 1)].as_slice()
-        && deps.without(at(2, 3))?.count() == 3
-        && copied.as_slice() == deps.as_slice()
-        && deps.deepest(&[at(2, 1), at(7, 1), at(9, 1)]) == Some(1)
-        && deps.deepest(&[at(1, 1), at(3, 1), at(9, 1)]).is_none())
+    Ok(
+        deps.as_slice() == [at(2, 1), at(2, 2), at(7, 1)].as_slice()
+            && fewer.as_slice() == [at(2, 2), at(7, 1)].as_slice()
+            && deps.without(at(2, 3))?.count() == 3
+            && copied.as_slice() == deps.as_slice()
+            && deps.deepest(&[at(2, 1), at(7, 1), at(9, 1)]) == Some(1)
+            && deps.deepest(&[at(1, 1), at(3, 1), at(9, 1)]).is_none(),
+    )
 }
 
 /// Declares `c0`, `c1`, and so on; whether each could be declared.
@@ -89,8 +93,10 @@ pub fn signature(alloc: Global) -> Result<bool, AllocError> {
     }
     let more = signature.declare(alloc, "one_more", 0, Kind::Sort);
     let again = signature.declare(alloc, "c65535", 0, Kind::Sort);
-    Ok(matches!(more, Err(DeclareError::Full))
-        && matches!(again, Err(DeclareError::Again { first }) if first.number == 65_535))
+    Ok(
+        matches!(more, Err(DeclareError::Full))
+            && matches!(again, Err(DeclareError::Again { first }) if first.number == 65_535),
+    )
 }
 
 /// A row without further words.

@@ -145,9 +145,11 @@ pub fn concluded(alloc: Global, row: &Row) -> Result<bool, AllocError> {
         return Ok(row.has_none(2));
     };
     let wanted = statement(alloc, row.text(2), row.text(3))?;
-    Ok(!row.has_none(2)
-        && same_clause(&made.clause, &wanted.clause)
-        && made.deps.as_slice() == wanted.deps.as_slice())
+    Ok(
+        !row.has_none(2)
+            && same_clause(&made.clause, &wanted.clause)
+            && made.deps.as_slice() == wanted.deps.as_slice(),
+    )
 }
 
 /// The lines of these steps over the input, each with what it concludes; one that concludes nothing states the empty clause.
@@ -171,6 +173,10 @@ pub fn proof(alloc: Global, row: &Row) -> Result<bool, AllocError> {
     for written in Row::split(alloc, row.text(1), ';')?.words() {
         input.push(clause(alloc, written.as_str())?)?;
     }
-    let lines = lines(alloc, input.as_slice(), &Row::split(alloc, row.text(2), ';')?)?;
+    let lines = lines(
+        alloc,
+        input.as_slice(),
+        &Row::split(alloc, row.text(2), ';')?,
+    )?;
     Ok(check(alloc, input.as_slice(), lines.as_slice())? == row.says(3))
 }

@@ -94,7 +94,13 @@ pub fn matched_on(alloc: Global, row: &Row) -> Result<bool, AllocError> {
     let target = term(alloc, row.text(2))?;
     let more = terms(alloc, row.text(3))?;
     let clashes = terms(alloc, row.text(4))?;
-    let bound = bound_before(alloc, &pattern, &target, more.as_slice(), clashes.as_slice())?;
+    let bound = bound_before(
+        alloc,
+        &pattern,
+        &target,
+        more.as_slice(),
+        clashes.as_slice(),
+    )?;
     is_answer(alloc, &bound, row.text(5))
 }
 

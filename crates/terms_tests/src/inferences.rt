@@ -1,0 +1,114 @@
+//! Inferences of two clauses and of one.
+ghost use Rattle.std.specs.Prelude.{◌≡◌, IfOk};
+ghost use Rattle.spl_terms.specs.InOrder.{IsInOrder};
+
+use crate::makers::clause;
+use crate::rows::{Row, number};
+use calculus::Kept;
+use dep_sets::Deps;
+use proof_steps::{Line, Statement};
+use sort_inference::{solved, sort_steps, unsolved_atom};
+use spl_terms::{Clause, same_clause, symbols_of};
+use std::alloc::{AllocError, Global};
+use superposition::{infer_pair, infer_self};
+
+/// The clause of a text in order.
+fn ordered(alloc: Global, text: &str) -> Result<Clause, AllocError>
+    ensures { IfOk result (λ made. IsInOrder made) }
+{
+    clause(alloc, text)?.into_ordered(alloc)
+}
+
+/// The place of a word.
+fn place(text: &str) -> Option<usize> {
+    if text == "none" {
+        None
+    } else {
+        Some(number(text) as usize)
+    }
+}
+
+/// The clause as a premise.
+fn kept(alloc: Global, number: u32, clause: Clause, selected: Option<usize>) -> Kept
+    ensures { result.statement.clause ≡ clause }
+{
+    Kept {
+        number,
+        statement: Statement {
+            clause,
+            deps: Deps::none(alloc),
+        },
+        selected,
+    }
+}
+
+/// Whether the lines conclude just these clauses, in this order, with `;` between them, or there are none and the text says
+/// so.
+fn conclude(alloc: Global, lines: &[Line], wanted: &str) -> Result<bool, AllocError> {
+    if wanted == "none" {
+        return Ok(lines.is_empty());
+    }
+    let wanted = Row::split(alloc, wanted, ';')?;
+    if wanted.words().len() != lines.len() {
+        return Ok(false);
+    }
+    for (line, written) in lines.iter().zip(wanted.words()) {
+        if !same_clause(&line.stated.clause, &clause(alloc, written.as_str())?) {
+            return Ok(false);
+        }
+    }
+    Ok(true)
+}
+
+/// `pair CLAUSE SELECTED|none CLAUSE SELECTED|none CLAUSES|none`: the inferences of two clauses.
+pub fn pair(alloc: Global, row: &Row) -> Result<bool, AllocError> {
+    let first = ordered(alloc, row.text(1))?;
+    let second = ordered(alloc, row.text(3))?;
+    if symbols_of(&first) > 4096 || symbols_of(&second) > 4096 {
+        return Ok(false);
+    }
+    let given = kept(alloc, 1, first, place(row.text(2)));
+    let other = kept(alloc, 2, second, place(row.text(4)));
+    let mut out = Vec::new(alloc);
+    if infer_pair(alloc, &given, &other, &mut out).is_err() {
+        return Ok(false);
+    }
+    conclude(alloc, out.as_slice(), row.text(5))
+}
+
+/// `own CLAUSE SELECTED|none CLAUSES|none`: the inferences of a clause with its copy and alone.
+pub fn own(alloc: Global, row: &Row) -> Result<bool, AllocError> {
+    let first = ordered(alloc, row.text(1))?;
+    if symbols_of(&first) > 4096 {
+        return Ok(false);
+    }
+    let given = kept(alloc, 1, first, place(row.text(2)));
+    let mut out = Vec::new(alloc);
+    if infer_self(alloc, &given, &mut out).is_err() {
+        return Ok(false);
+    }
+    conclude(alloc, out.as_slice(), row.text(3))
+}
+
+/// `sorts CLAUSE CLAUSE CLAUSES|none`: the sort steps of two clauses.
+pub fn sorts(alloc: Global, row: &Row) -> Result<bool, AllocError> {
+    let first = ordered(alloc, row.text(1))?;
+    let second = ordered(alloc, row.text(2))?;
+    if symbols_of(&first) > 4096 || symbols_of(&second) > 4096 {
+        return Ok(false);
+    }
+    let given = kept(alloc, 1, first, None);
+    let other = kept(alloc, 2, second, None);
+    let mut out = Vec::new(alloc);
+    if sort_steps(alloc, &given, &other, &mut out).is_err() {
+        return Ok(false);
+    }
+    conclude(alloc, out.as_slice(), row.text(3))
+}
+
+/// `unsolved CLAUSE PLACE|none`: the first place of the constraint that isn't solved.
+pub fn unsolved(alloc: Global, row: &Row) -> Result<bool, AllocError> {
+    let given = clause(alloc, row.text(1))?;
+    let found = unsolved_atom(&given);
+    Ok(found == place(row.text(2)) && solved(&given) == row.has_none(2))
+}
