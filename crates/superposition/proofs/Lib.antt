@@ -6,3 +6,4 @@ pub mod Resolving
 pub mod Compared
 pub mod Alone
 pub mod Walked
+pub mod Skipped

@@ -1,10 +1,11 @@
 //! The conditions that a unifier has to meet in the order on terms.
-ghost use Rattle.std.specs.Prelude.{◌≡◌, ◌&&◌, IfOk};
+ghost use Rattle.std.specs.Prelude.{◌≡◌, ◌&&◌, false, List, IsTrue, IfOk};
+ghost use Rattle.spl_terms.specs.declared.term.Term.{Term};
 ghost use Rattle.spl_truth.specs.Orders.{is_not_below};
 ghost use Rattle.calculus.specs.Inferences.{is_upper_side};
 
 use crate::equations::Equation;
-use kbo::{Order, compare};
+use kbo::{Order, compare, order_is_stable};
 use spl_terms::{Atom, Term};
 use spl_truth::{Subst, replaced};
 use std::alloc::{AllocError, Global};
@@ -72,4 +73,21 @@ pub(crate) fn keeps_order(
         return Ok(false);
     }
     is_upper_side(alloc, unifier, atom, path)
+}
+
+/// Whether the first term is less than the second one or equal to it, as they stand: then so is each instance. Terms that are
+/// too large to compare are not judged.
+pub(crate) fn is_always_below(left: &Term, right: &Term) -> bool
+    ensures { IsTrue result → (u : List Term) → is_not_below u left.now right.now ≡ false }
+{
+    order_is_stable();
+    if left.symbols() > 4_294_967_295 || right.symbols() > 4_294_967_295 {
+        return false;
+    }
+    match compare(left, right) {
+        Order::Greater => false,
+        Order::Incomparable => false,
+        Order::Less => true,
+        Order::Equal => true,
+    }
 }

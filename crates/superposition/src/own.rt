@@ -14,7 +14,7 @@ ghost use Rattle.superposition.specs.Readings.{reading_of, AreLeftSidesBelow, fa
 use crate::appending::append_from;
 use crate::equations::{Equation, readings_of};
 use crate::error::InferError;
-use crate::ordering::is_not_below;
+use crate::ordering::{is_always_below, is_not_below};
 use crate::premises::{atoms_in, eligible_in, variables};
 use crate::unifiers::{unifier_of_atoms, unifier_of_sides};
 use calculus::Kept;
@@ -245,6 +245,9 @@ fn factor_equation_with_each(
     requires others_below { AreLeftSidesBelow vars others.now }
     ensures { Appended (flat_map (λ d. factor_apart p.now (reading_of e.entry) (reading_of d)) others.now) out.old.items out.new.items result }
 {
+    if is_always_below(e.left_side, e.right_side) {
+        return Ok(());
+    }
     for k in 0..others.len() {
         if let Err(error) = factor_equation(alloc, p, vars, e, others[k], out) {
             return Err(error);

@@ -17,7 +17,7 @@ ghost use Rattle.superposition.specs.Walks.{IsCounted, IsReady, superpose_in, su
 use crate::appending::append_from_both;
 use crate::equations::{Equation, readings_of};
 use crate::error::InferError;
-use crate::ordering::keeps_order;
+use crate::ordering::{is_always_below, keeps_order};
 use crate::pairs::Pair;
 use crate::premises::{eligible_in, raised_atoms, variables};
 use crate::unifiers::parted;
@@ -193,6 +193,44 @@ fn superpose_in_argument(
     Ok(())
 }
 
+/// Superposes at the left side of an equation, unless it is below the right one, and at all that stands in it.
+fn superpose_in_left_side(
+    alloc: Global,
+    r: Rewriting,
+    left: &Term,
+    right: &Term,
+    out: &mut Vec<Line>,
+) -> Result<(), InferError>
+    requires ready { IsReady r }
+    requires sides { r.atom.now ≡ Equal left.now right.now }
+    ensures { Appended (rewrite_argument r.entry [] (0, left.now)) out.old.items out.new.items result }
+{
+    if is_always_below(left, right) {
+        return Ok(());
+    }
+    let mut path = Vec::new(alloc);
+    superpose_in_argument(alloc, r, &mut path, 0, left, out)
+}
+
+/// Superposes at the right side of an equation, unless it is below the left one, and at all that stands in it.
+fn superpose_in_right_side(
+    alloc: Global,
+    r: Rewriting,
+    left: &Term,
+    right: &Term,
+    out: &mut Vec<Line>,
+) -> Result<(), InferError>
+    requires ready { IsReady r }
+    requires sides { r.atom.now ≡ Equal left.now right.now }
+    ensures { Appended (rewrite_argument r.entry [] (1, right.now)) out.old.items out.new.items result }
+{
+    if is_always_below(right, left) {
+        return Ok(());
+    }
+    let mut path = Vec::new(alloc);
+    superpose_in_argument(alloc, r, &mut path, 1, right, out)
+}
+
 /// Superposes at both sides of an equation, and at all that stands in them.
 fn superpose_in_sides(
     alloc: Global,
@@ -205,11 +243,10 @@ fn superpose_in_sides(
     requires sides { r.atom.now ≡ Equal left.now right.now }
     ensures { Appended (rewrite_argument r.entry [] (0, left.now) ++ rewrite_argument r.entry [] (1, right.now)) out.old.items out.new.items result }
 {
-    let mut path = Vec::new(alloc);
-    if let Err(error) = superpose_in_argument(alloc, r, &mut path, 0, left, out) {
+    if let Err(error) = superpose_in_left_side(alloc, r, left, right, out) {
         return Err(error);
     }
-    superpose_in_argument(alloc, r, &mut path, 1, right, out)
+    superpose_in_right_side(alloc, r, left, right, out)
 }
 
 /// Superposes at all subterms of the atom that are no variables.
@@ -274,6 +311,9 @@ fn superpose_in_both(
     requires succedent_below { AreAtomsBelow pair.both succedent.now }
     ensures { Appended (superpose_in_parts pair.entry.p.now pair.entry.q.now antecedent.now succedent.now (reading_of equation.entry)) out.old.items out.new.items result }
 {
+    if is_always_below(equation.left_side, equation.right_side) {
+        return Ok(());
+    }
     if let Err(error) = superpose_in_atoms(
         alloc,
         pair,

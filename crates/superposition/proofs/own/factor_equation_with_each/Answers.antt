@@ -1,4 +1,4 @@
-use Rattle.std.proofs.Common.{arith, subst, List}
+use Rattle.std.proofs.Common.{Ok, arith, subst, List}
 use Rattle.std.specs.List.{flat_map}
 use Rattle.spl_truth.specs.Unifiers.{HasVariablesBelow}
 use Rattle.proof_steps.specs.declared.step.Line.{Line}
@@ -6,7 +6,8 @@ use Rattle.superposition.specs.declared.equations.Equation.{Equation}
 use Rattle.superposition.specs.Readings.{reading_of, factor_apart}
 use Rattle.superposition.specs.Appending.{Appended}
 use Rattle.superposition.proofs.Lists.{each_at}
-use Rattle.superposition.proofs.Composing.{loop_goes_on, loop_stops, loop_ends}
+use Rattle.superposition.proofs.Skipped.{factoring_skipped}
+use Rattle.superposition.proofs.Composing.{nothing, loop_goes_on, loop_stops, loop_ends}
 use Rattle.superposition.proofs.own.factor_equation_with_each.Goals as goal
 
 pub factor_equation-requires-clause-d_below : goal.factor_equation-requires-clause-d_below
@@ -30,3 +31,8 @@ returns-in-Err c =
     let f : Equation → List Line = λ d. factor_apart a.p.now (reading_of a.e) (reading_of d) in
     loop_stops f a.others.now c.loop-k.k c.index-others-k.result (flat_map f a.others.now) a.out.now.items c.loop-k.out.items c.loop-k-test.true c.index-others-k.is c.loop-k.invariant c.factor_equation.new.out.items c.in-Err.error
     (subst (λ r. Appended (f c.index-others-k.result) c.loop-k.out.items c.factor_equation.new.out.items r) c.in-Err.is c.factor_equation.ensures)
+
+pub returns-then-is_always_below : goal.returns-then-is_always_below
+returns-then-is_always_below c =
+    let a = c.args in
+    subst (λ l. Appended l a.out.now.items a.out.now.items (Ok (tt {0}))) (factoring_skipped a.p.now (reading_of a.e) a.others.now (c.is_always_below.ensures c.if-is_always_below.true)) (nothing a.out.now.items (tt {0}))
