@@ -135,7 +135,7 @@ next_event past later start e is low at = elim (snoc later) [
 
 -- ---- one event of the walk
 
-legal_tail : (s : Setting) (later past : List Entry) → IsLegalJournal s (later ++ past) → IsLegalJournal s past
+pub legal_tail : (s : Setting) (later past : List Entry) → IsLegalJournal s (later ++ past) → IsLegalJournal s past
 legal_tail s [] past legal = legal
 legal_tail s (e ∷ later) past legal = legal_tail s later past legal.1
 

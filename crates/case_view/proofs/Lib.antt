@@ -5,3 +5,7 @@ pub mod Orders
 pub mod Members
 pub mod Owners
 pub mod Searches
+pub mod Meetings
+pub mod FiledSteps
+pub mod Entering
+pub mod Backward

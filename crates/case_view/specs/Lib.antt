@@ -1,2 +1,6 @@
 pub mod Views
 pub mod Walks
+pub mod Caches
+pub mod Marks
+pub mod MarkLaws
+pub mod PlaceLaws

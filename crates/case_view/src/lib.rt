@@ -5,11 +5,12 @@
 //! by an event.
 #![tactic(auto)]
 
+mod filed;
 mod kept;
 mod laws;
 mod view;
 mod walking;
 
-pub use kept::{Case, Kept};
+pub use kept::{Case, Kept, Mark};
 pub use laws::{paths_give_the_owners, views_have_the_clauses};
 pub use view::CaseView;

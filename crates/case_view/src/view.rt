@@ -1,15 +1,23 @@
 //! The view of a case, and what it says.
-ghost use Rattle.std.specs.Prelude.{◌≡◌, ℕ, ◌<◌, length, Some, IfOk, OnOk, Contains, slice_get};
+ghost use Rattle.std.specs.Prelude.{◌≡◌, ℕ, ◌<◌, true, length, Some, IfOk, OnOk, MatchBool, Contains, slice_get};
 ghost use Rattle.std.specs.Option.{option_copied};
+ghost use Rattle.spl_truth.specs.Redundancy.{Subsumes};
+ghost use Rattle.case_journal.specs.Journal.{nodes};
+ghost use Rattle.case_journal.specs.Paths.{on_path};
 ghost use Rattle.case_journal.specs.Facts.{Holds};
+ghost use Rattle.case_view.specs.declared.kept.Case.{Case};
 ghost use Rattle.case_view.specs.declared.kept.Kept.{Kept};
-ghost use Rattle.case_view.specs.Views.{IsOrdered, IsPartnerOf, IsCaseOf, StandsFor, GoesOn};
+ghost use Rattle.case_view.specs.Marks.{HasGrown, IsMarkOf};
+ghost use Rattle.case_view.specs.Walks.{Reaches};
+ghost use Rattle.case_view.specs.Views.{IsIn, IsOrdered, IsPartnerOf, IsCaseOf, StandsFor, GoesOn};
 
-use crate::kept::{Case, Kept};
+use crate::filed::{file_clauses, file_under_all, is_subclause_at, places_below, walk_and_file};
+use crate::kept::{Case, Kept, Mark};
 use crate::walking::{path_to, root_case, walk};
+use clause_filing::Filing;
 use dep_sets::Assumption;
 use journal_laws::conclusions_are_in_order;
-use spl_terms::Items;
+use spl_terms::{Clause, Items};
 use split_tree::Table;
 use std::alloc::{AllocError, Global};
 use std::marker::Model;
@@ -21,11 +29,15 @@ use std::marker::Model;
 pub struct CaseView {
     alloc: Global,
     case: Case,
+    /// The places of the listed clauses, from 0, filed under their first atoms.
+    clauses: Filing,
+    /// The places of the worked clauses, from 0, filed under all their atoms.
+    literals: Filing,
 }
 
 impl Model for CaseView {
     ghost use Rattle.case_view.specs.declared.kept.Case.{Case};
-    ghost use Rattle.case_view.specs.Views.{IsOrdered};
+    ghost use Rattle.case_view.specs.Caches.{IsView};
     ghost use Rattle.std.specs.Coded.{codes};
     ghost use Rattle.spl_terms.specs.contracts.term.Term as term;
 
@@ -35,7 +47,7 @@ impl Model for CaseView {
 
     ghost view = { λ v. v.case };
 
-    ghost invariant = { λ v. IsOrdered v.case };
+    ghost invariant = { IsView };
 }
 
 impl CaseView {
@@ -54,8 +66,48 @@ impl CaseView {
         let leaf = table.held(worker).unwrap();
         let way = path_to(alloc, table, leaf)?;
         let mut case = root_case(alloc, table, worker)?;
+        let mut clauses = Filing::new(alloc);
+        let mut literals = Filing::new(alloc);
         walk(alloc, table, &mut case, leaf, way.as_slice())?;
-        Ok(CaseView { alloc, case })
+        file_clauses(&mut clauses, case.listed.as_slice(), 0)?;
+        file_under_all(&mut literals, case.worked.as_slice(), 0)?;
+        Ok(CaseView {
+            alloc,
+            case,
+            clauses,
+            literals,
+        })
+    }
+
+    /// The view goes on by all further events of the journal, as by `walk`. Where there is no memory it has no clauses
+    /// any more.
+    fn go_on(&mut self, table: &Table, leaf: u32, way: &[u32]) -> Result<(), AllocError>
+        requires there { leaf < nodes table.now.past }
+        requires reaches { Reaches table.now.setting table.now.past leaf way.now self.old.events self.old }
+        ensures is { OnOk result (IsCaseOf table.now.setting table.now.past self.new) }
+        ensures node { OnOk result (self.new.node ≡ leaf) }
+        ensures grows { OnOk result (HasGrown self.old self.new) }
+    {
+        conclusions_are_in_order();
+        table.laws();
+        let gone_on = walk_and_file(
+            self.alloc,
+            table,
+            &mut self.case,
+            leaf,
+            way,
+            &mut self.clauses,
+            &mut self.literals,
+        );
+        match gone_on {
+            Ok(()) => Ok(()),
+            Err(error) => {
+                self.case.given = None;
+                self.case.worked = Items::new(self.alloc);
+                self.case.listed = Items::new(self.alloc);
+                Err(error)
+            }
+        }
     }
 
     /// Brings the view up to the table, by a look at the events alone that were appended since. The leaf and the worker
@@ -70,19 +122,77 @@ impl CaseView {
         ensures stands { OnOk result (StandsFor table.now.setting table.now.past self.new) }
         ensures worker { OnOk result (self.new.worker ≡ self.old.worker) }
         ensures node { OnOk result (self.new.node ≡ self.old.node) }
+        ensures grows { OnOk result (HasGrown self.old self.new) }
     {
-        conclusions_are_in_order();
         table.laws();
         let leaf = self.case.node;
-        match walk(self.alloc, table, &mut self.case, leaf, &[]) {
-            Ok(()) => Ok(()),
-            Err(error) => {
-                self.case.given = None;
-                self.case.worked = Items::new(self.alloc);
-                self.case.listed = Items::new(self.alloc);
-                Err(error)
-            }
-        }
+        self.go_on(table, leaf, &[])?;
+        Ok(())
+    }
+
+    /// Brings the view up to the table and down to the leaf that the worker holds, by a look at the events alone that were
+    /// appended since. The view's own leaf is on the path of that one.
+    ///
+    /// # Errors
+    ///
+    /// Only where there is no memory; then the view is of no use.
+    pub fn enter(&mut self, table: &Table) -> Result<(), AllocError>
+        requires goes_on { GoesOn table.now.setting table.now.past self.old }
+        requires below { (m : ℕ) × Holds table.now.setting table.now.past self.old.worker m
+            × (on_path table.now.past m self.old.node ≡ true) }
+        ensures stands { OnOk result (StandsFor table.now.setting table.now.past self.new) }
+        ensures grows { OnOk result (HasGrown self.old self.new) }
+    {
+        table.laws();
+        let leaf = table.held(self.case.worker).unwrap();
+        let way = path_to(self.alloc, table, leaf)?;
+        self.go_on(table, leaf, way.as_slice())?;
+        Ok(())
+    }
+
+    /// What the view has now, to go back to.
+    ///
+    /// # Errors
+    ///
+    /// Only where there is no memory.
+    pub fn mark(&self) -> Result<Mark, AllocError>
+        ensures { IfOk result (λ mark. IsMarkOf mark self.now) }
+    {
+        let case = &self.case;
+        let given = match &case.given {
+            Some(given) => Some(given.copy(self.alloc)?),
+            None => None,
+        };
+        Ok(Mark {
+            node: case.node,
+            events: case.events,
+            base: case.base,
+            splits: case.splits,
+            given,
+            nodes: case.nodes.len(),
+            path: case.path.len(),
+            worked: case.worked.len(),
+            listed: case.listed.len(),
+        })
+    }
+
+    /// Goes back to what the view had at the mark, out of which it has grown. It takes no memory, and no time but for what
+    /// has come since.
+    pub fn go_back(&mut self, mark: Mark)
+        requires { (v : Case) × IsMarkOf mark v × HasGrown v self.old }
+        ensures { (v : Case) → IsMarkOf mark v → HasGrown v self.old → self.new ≡ v }
+    {
+        self.case.node = mark.node;
+        self.case.events = mark.events;
+        self.case.base = mark.base;
+        self.case.splits = mark.splits;
+        self.case.given = mark.given;
+        self.case.nodes.truncate(mark.nodes);
+        self.case.path.truncate(mark.path);
+        self.case.worked.truncate(mark.worked);
+        self.case.listed.truncate(mark.listed);
+        self.clauses.drop_from(mark.listed);
+        self.literals.drop_from(mark.worked);
     }
 
     /// The law of a view, which does nothing when it runs: its clauses are in order.
@@ -116,15 +226,28 @@ impl CaseView {
         ensures all { IfOk result (λ places. (n : ℕ) (other : Kept) → slice_get self.now.worked n ≡ Some other
             → IsPartnerOf self.now other → Contains places.items n) }
     {
-        let count = self.case.worked.len();
-        if count > u32::MAX as usize {
-            return Err(AllocError);
-        }
-        let mut places = Vec::with_capacity(self.alloc, count)?;
-        for place in 0..count {
-            places.push(place as u32)?;
-        }
+        let Some(given) = &self.case.given else {
+            return Ok(Vec::new(self.alloc));
+        };
+        let mut found = self.literals.partners(self.alloc, &given.stated.clause)?;
+        found.sort_unstable();
+        found.dedup();
+        let places = places_below(self.alloc, found.as_slice(), self.case.worked.len())?;
         Ok(places)
+    }
+
+    /// Whether a listed clause is a subclause of this one. Where none is, no listed clause is this very one.
+    ///
+    /// # Errors
+    ///
+    /// Only where there is no memory.
+    pub fn is_subsumed(&self, clause: &Clause) -> Result<bool, AllocError>
+        ensures { IfOk result (λ found. MatchBool found
+            ((k : Kept) × IsIn self.now.listed k × Subsumes k.stated.clause clause.now)
+            ((k : Kept) → IsIn self.now.listed k → ¬ (k.stated.clause ≡ clause.now))) }
+    {
+        let places = self.clauses.subclauses(self.alloc, clause)?;
+        Ok(is_subclause_at(self.case.listed.as_slice(), places.as_slice(), clause))
     }
 
     /// How many steps the ledger had.

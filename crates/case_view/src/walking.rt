@@ -6,6 +6,7 @@ ghost use Rattle.case_journal.specs.Journal.{ledger, steps, nodes, lines_of, nod
 ghost use Rattle.case_journal.specs.Facts.{lists};
 ghost use Rattle.case_view.specs.Views.{keep, kept_lines, path_nodes, listed_at, IsRising, IsCaseOf};
 ghost use Rattle.case_view.specs.Walks.{is_among, count_with, entered, side_into, nodes_into, sides_into, given_by, worked_with, noted, IsNotable, Reaches};
+ghost use Rattle.case_view.specs.Marks.{HasGrown};
 
 use crate::kept::{Case, Kept};
 use case_journal::{Event, subject};
@@ -210,7 +211,7 @@ pub fn walk(
     requires reaches { Reaches table.now.setting table.now.past leaf way.now case.old.events case.old }
     ensures is { OnOk result (IsCaseOf table.now.setting table.now.past case.new) }
     ensures node { OnOk result (case.new.node ≡ leaf) }
-    ensures worker { OnOk result (case.new.worker ≡ case.old.worker) }
+    ensures grows { OnOk result (HasGrown case.old case.new) }
 {
     table.laws();
     for place in case.events..table.events() {

@@ -1,5 +1,5 @@
 -- Entries that stay linked, and what stays filed.
-use Rattle.std.proofs.Common.{◌≡◌, ◌⊎◌, inl, inr, ℕ, zero, suc, ◌+◌, ◌-◌, ◌<◌, ◌≤◌, ◌==◌, Bool, true, false, if◌then◌else◌, List, [], ◌∷◌, ◌++◌, length, Option, Some, None, unwrap_or, refl, sym, ap, ◌∙◌, subst, arith, length-append}
+use Rattle.std.proofs.Common.{◌≡◌, ◌⊎◌, inl, inr, ℕ, zero, suc, ◌+◌, ◌-◌, ◌<◌, ◌≤◌, ◌==◌, Bool, true, false, if◌then◌else◌, List, [], ◌∷◌, ◌++◌, length, Option, Some, None, option_map, unwrap_or, refl, sym, ap, ◌∙◌, subst, arith, length-append}
 use Rattle.std.specs.Prelude.{nat_eq}
 use Rattle.std.specs.List.{slice_get}
 use Rattle.std.proofs.lemmas.Bool.{eqb-true, eq-eqb, cases_lt}
@@ -97,6 +97,84 @@ none_linked filing rule items = record {
   newest = λ q. subst (λ es. IsNewest es q (length es) (unwrap_or (get nat_eq filing.newest q) 0)) (sym items) (subst (λ o. IsNewest [] q 0 (unwrap_or o 0)) (sym (rule q)) (record { within = omega arith; own = λ p. absurd (omega (arith, p)); last = λ y l u k. absurd (omega (arith, l, u)) }));
   older = λ x e is. absurd (omega (arith, numbered-within filing.entries.items x e is, ap length items));
 }
+
+-- ---- one entry less
+
+newest_first : (es : List Entry) (e : Entry) (key upto x : ℕ) → upto ≤ length es → IsNewest (es ++ e ∷ []) key upto x → IsNewest es key upto x
+newest_first es e key upto x w h = record {
+  within = h.within;
+  own = λ p. keyed_before es e key x (omega (arith, h.within, w)) (h.own p);
+  last = λ y l u k. h.last y l u (keyed_left es e key y k);
+}
+
+newest_less : (es : List Entry) (e : Entry) (key x : ℕ) → (e.key ≡ key → ⊥) → IsNewest (es ++ e ∷ []) key (length (es ++ e ∷ [])) x → IsNewest es key (length es) x
+newest_less es e key x other h =
+    let within : x ≤ length es = elim (cases_lt (length es) x) [
+      | inl late ↦
+          let k = h.own (omega (arith, late)) in
+          elim (numbered_snoc es e x k.0 k.1) [
+            | inl b ↦ absurd (omega (arith, b.0, late))
+            | inr a ↦ absurd (other (ap (λ (f : Entry). f.key) a.1 ∙ k.2))
+          ]
+      | inr early ↦ early
+    ] in
+    record {
+      within = within;
+      own = λ p. keyed_before es e key x within (h.own p);
+      last = λ y l u k. h.last y l (omega (arith, u, length-append es (e ∷ []))) (keyed_left es e key y k);
+    }
+
+less_key : (es : List Entry) (e : Entry) (key : ℕ) (t : Bool) (o : Option ℕ) → (e.key == key) ≡ t → IsNewest (es ++ e ∷ []) e.key (length es) e.older → IsNewest (es ++ e ∷ []) key (length (es ++ e ∷ [])) (unwrap_or o 0) → IsNewest es key (length es) (unwrap_or (if t then Some e.older else o) 0)
+less_key es e key true o is own h = newest_first es e key (length es) e.older (omega arith) (subst (λ k. IsNewest (es ++ e ∷ []) k (length es) e.older) (eqb-true e.key key is) own)
+less_key es e key false o is own h = newest_less es e key (unwrap_or o 0) (λ s. absurd (let c = sym is ∙ eq-eqb e.key key s in cc)) h
+
+pub linked_less : (old new : Inside) (es : List Entry) (e : Entry) → IsLinked old → old.entries.items ≡ es ++ e ∷ [] → ((q : ℕ) → get nat_eq new.newest q ≡ (if e.key == q then Some e.older else get nat_eq old.newest q)) → new.entries.items ≡ es → IsLinked new
+linked_less old new es e l whole rule items = record {
+  newest = λ q. subst (λ xs. IsNewest xs q (length xs) (unwrap_or (get nat_eq new.newest q) 0)) (sym items)
+      (subst (λ o. IsNewest es q (length es) (unwrap_or o 0)) (sym (rule q))
+      (less_key es e q (e.key == q) (get nat_eq old.newest q) refl own (subst (λ xs. IsNewest xs q (length xs) (unwrap_or (get nat_eq old.newest q) 0)) whole (l.newest q))));
+  older = λ x f is.
+      let at : numbered es x ≡ Some f = ap (λ xs. numbered xs x) (sym items) ∙ is in
+      let low = numbered-within es x f at in
+      subst (λ xs. IsNewest xs f.key (x - 1) f.older) (sym items)
+      (newest_first es e f.key (x - 1) f.older (omega (arith, low)) (subst (λ xs. IsNewest xs f.key (x - 1) f.older) whole (l.older x f (ap (λ xs. numbered xs x) whole ∙ numbered-more es (e ∷ []) x f at))));
+}
+  where
+    own : IsNewest (es ++ e ∷ []) e.key (length es) e.older
+    own =
+        let less : (length es + 1) - 1 ≡ length es = omega arith in
+        subst (λ n. IsNewest (es ++ e ∷ []) e.key n e.older) less
+        (subst (λ xs. IsNewest xs e.key ((length es + 1) - 1) e.older) whole (l.older (length es + 1) e (ap (λ xs. numbered xs (length es + 1)) whole ∙ numbered-end es e)))
+
+-- the key of the last entry leads somewhere
+pub last_key_there : (f : Inside) (es : List Entry) (e : Entry) → IsLinked f → f.entries.items ≡ es ++ e ∷ [] → get nat_eq f.newest e.key ≡ None → ⊥
+last_key_there f es e l whole none =
+    let w : IsNewest (es ++ e ∷ []) e.key (length (es ++ e ∷ [])) 0 = subst (λ o. IsNewest (es ++ e ∷ []) e.key (length (es ++ e ∷ [])) (unwrap_or o 0)) none (subst (λ xs. IsNewest xs e.key (length xs) (unwrap_or (get nat_eq f.newest e.key) 0)) whole (l.newest e.key)) in
+    w.last (length es + 1) (omega arith) (omega (arith, length-append es (e ∷ []))) (e, numbered-end es e, refl)
+
+pub numbered_before : (es : List Entry) (e : Entry) (old new : List Entry) → old ≡ es ++ e ∷ [] → new ≡ es → (x : ℕ) → x < length old → numbered new x ≡ numbered old x
+numbered_before es e old new whole items x low =
+    ap (λ xs. numbered xs x) items ∙ (sym (numbered-left es (e ∷ []) x (omega (arith, low, ap length whole, length-append es (e ∷ [])))) ∙ ap (λ xs. numbered xs x) (sym whole))
+
+value_of : (o : Option Entry) (last : ℕ) → option_map (λ e. e.value) o ≡ Some last → (e : Entry) × (o ≡ Some e) × (e.value ≡ last)
+value_of None last h = absurd (cc)
+value_of (Some e) last h = let is : e.value ≡ last = cc in (e, refl, is)
+
+pub some_last : (es : List Entry) (last : ℕ) → option_map (λ e. e.value) (numbered es (length es)) ≡ Some last → 0 < length es
+some_last es last h =
+    let v = value_of (numbered es (length es)) last h in
+    omega (arith, (numbered-within es (length es) v.0 v.1).0)
+
+-- where the last entry has no value below this one, those that have one stay
+pub stays_below : (es new : List Entry) (value last x : ℕ) (e : Entry) → option_map (λ e. e.value) (numbered es (length es)) ≡ Some last → value ≤ last → ((x : ℕ) → x < length es → numbered new x ≡ numbered es x) → numbered es x ≡ Some e → e.value < value → numbered new x ≡ Some e
+stays_below es new value last x e is large others at small = elim (cases_lt x (length es)) [
+  | inl less ↦ others x less ∙ at
+  | inr more ↦
+      let v = value_of (numbered es (length es)) last is in
+      let end : length es ≡ x = omega (arith, more, (numbered-within es x e at).1) in
+      let same : v.0 ≡ e = (let s : Some v.0 ≡ Some e = sym v.1 ∙ ap (numbered es) end ∙ at in cc) in
+      absurd (omega (arith, small, large, v.2, ap (λ (f : Entry). f.value) same))
+]
 
 -- ---- what is filed
 

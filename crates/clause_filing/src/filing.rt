@@ -1,5 +1,5 @@
 //! Values filed under keys, and what is found there.
-ghost use Rattle.std.specs.Prelude.{◌≡◌, ℕ, ◌-◌, [], length, option_copied, Some, IfOk, OnOk, OnErr, Contains};
+ghost use Rattle.std.specs.Prelude.{◌≡◌, ℕ, ◌-◌, ◌<◌, [], length, option_copied, option_map, Some, IfOk, OnOk, OnErr, Contains};
 ghost use Rattle.spl_terms.specs.declared.clause.Clause.{Clause};
 ghost use Rattle.spl_terms.specs.Lists.{numbered};
 ghost use Rattle.clause_filing.specs.declared.filing.Entry.{Entry};
@@ -133,6 +133,38 @@ impl Filing {
         self.file_atoms(BEFORE_ARROW, clause.antecedent.as_slice(), value)?;
         self.file_atoms(AFTER_ARROW, clause.succedent.as_slice(), value)?;
         Ok(())
+    }
+
+    /// Takes the last entry off, if there is one.
+    fn pop(&mut self)
+        ensures others { (x : ℕ) → x < length self.old → numbered self.new x ≡ numbered self.old x }
+        ensures shorter { length self.new ≡ length self.old - 1 }
+    {
+        if let Some(entry) = self.entries.pop() {
+            match self.newest.insert(entry.key, entry.older) {
+                Ok(_) => {}
+                Err(_) => unreachable!(),
+            }
+        }
+    }
+
+    /// The value that was filed last.
+    fn last(&self) -> Option<u32>
+        ensures { result ≡ option_map (λ e. e.value) (numbered self.now (length self.now)) }
+    {
+        self.entries.last().map(|entry| entry.value)
+    }
+
+    /// Takes entries off, the last ones first, down to one with a value below this one.
+    pub fn drop_from(&mut self, value: usize)
+        ensures { (x : ℕ) (e : Entry) → numbered self.old x ≡ Some e → e.value < value → numbered self.new x ≡ Some e }
+    {
+        while let Some(last) = self.last() {
+            if (last as usize) < value {
+                return;
+            }
+            self.pop();
+        }
     }
 
     /// Adds what is filed under the key with a mask that is within this one, the newest first.

@@ -4,7 +4,12 @@ use Rattle.case_journal.specs.declared.event.Entry.{Entry}
 use Rattle.case_journal.specs.Journal.{ledger}
 use Rattle.case_view.specs.Walks.{noted, Reaches}
 use Rattle.case_view.proofs.CaseSteps.{next_of, walk_step, notable, arrives}
+use Rattle.case_view.specs.MarkLaws.{grown_self, grown_more}
+use Rattle.case_view.proofs.FiledSteps.{noted_grows}
 use Rattle.case_view.proofs.walking.walk.Goals as goal
+
+pub loop-place-init : goal.loop-place-init
+loop-place-init c = record { reaches = c.requires.reaches; grows = grown_self c.args.case.now }
 
 pub note-requires : goal.note-requires
 note-requires c =
@@ -26,7 +31,7 @@ loop-place-preserved c =
     let is = c.in_ok-note.ensures ∙ ap (λ o. noted (ledger t.setting t.past) e.event o v) below in
     record {
       reaches = subst (Reaches t.setting t.past c.args.leaf c.args.way.now (at + 1)) (sym is) (walk_step t.setting t.past c.laws.ensures.legal c.args.leaf c.requires.there c.args.way.now at v e next);
-      worker = ap (λ x. x.worker) is ∙ c.loop-place.invariant.worker;
+      grows = grown_more c.args.case.now v c.note.new.case c.loop-place.invariant.grows (noted_grows (ledger t.setting t.past) e.event (slice_get c.args.way.now (length v.nodes)) v c.note.new.case is);
     }
 
 pub returns-clause-is : goal.returns-clause-is

@@ -1,0 +1,28 @@
+-- What a view keeps beside its clauses, to find those that may subsume a clause or resolve with one.
+use Rattle.std.specs.Prelude.{◌≡◌, ℕ, ◌<◌, List, Some, slice_get}
+use Rattle.clause_filing.specs.declared.filing.Entry.{Entry}
+use Rattle.clause_filing.specs.Filings.{IsFiledClause, IsFiledUnderAll}
+use Rattle.case_view.specs.declared.kept.Kept.{Kept}
+use Rattle.case_view.specs.declared.view.CaseView.TheInside.{Inside}
+use Rattle.case_view.specs.Views.{IsOrdered}
+
+-- each of the first n clauses is filed with its place, under its first atom
+abbrev pub AreFiledTo : ℕ → List Kept → List Entry → Type 0
+AreFiledTo n list entries = (i : ℕ) (k : Kept) → i < n → slice_get list i ≡ Some k → IsFiledClause entries k.stated.clause i
+
+-- each clause is
+abbrev pub AreFiled : List Kept → List Entry → Type 0
+AreFiled list entries = (i : ℕ) (k : Kept) → slice_get list i ≡ Some k → IsFiledClause entries k.stated.clause i
+
+-- each of the first n clauses is filed with its place, under all its atoms
+abbrev pub AreUnderAllTo : ℕ → List Kept → List Entry → Type 0
+AreUnderAllTo n list entries = (i : ℕ) (k : Kept) → i < n → slice_get list i ≡ Some k → IsFiledUnderAll entries k.stated.clause i
+
+abbrev pub AreUnderAll : List Kept → List Entry → Type 0
+AreUnderAll list entries = (i : ℕ) (k : Kept) → slice_get list i ≡ Some k → IsFiledUnderAll entries k.stated.clause i
+
+-- the clauses are in order; those that are listed and worked off are filed
+pub record IsView (v : Inside) : Type 0 where
+  pub ordered : IsOrdered v.case
+  pub clauses : AreFiled v.case.listed v.clauses
+  pub literals : AreUnderAll v.case.worked v.literals
