@@ -1,26 +1,23 @@
-//! The literals of a clause: Skolem terms are put in place, and literals go to their parts, where there is memory.
-
-use normal_form::{Block, Stop, add_literal, add_term_variables, atom_instance, term_of};
-use spl_terms::{Atom, Clause, Items, Kind, Part, Symbol, Term, same_atom};
+//! The literals of a clause: Skolem terms are put in place, and literals go to their parts.
+use normal_form::{Block, add_literal, add_term_variables, atom_instance, term_of};
+use spl_terms::{Atom, Clause, Items, Kind, Symbol, Term};
 use std::alloc::{AllocError, Global};
-use std::test::Fail;
-
-fn symbol(number: u32, kind: Kind) -> Symbol {
-    Symbol { number, kind }
-}
+use std::io;
+use std::rt::Runtime;
 
 /// A predicate or a sort of one term.
 fn holds(alloc: Global, kind: Kind, term: Term) -> Result<Atom, AllocError> {
     let mut args = Items::with_room(alloc, 1)?;
     args.push(term)?;
-    Ok(Atom::Holds(symbol(0, kind), args))
+    Ok(Atom::Holds(Symbol { number: 0, kind }, args))
 }
 
 /// A function of the variable 0.
 fn skolem(alloc: Global, number: u32) -> Result<Term, AllocError> {
     let mut args = Items::with_room(alloc, 1)?;
     args.push(Term::Var(0))?;
-    Ok(Term::App(symbol(number, Kind::Function), args))
+    let kind = Kind::Function;
+    Ok(Term::App(Symbol { number, kind }, args))
 }
 
 /// A universal block of the variable 0, and behind it an existential one of the variables 1 and 2.
@@ -42,33 +39,19 @@ fn blocks(alloc: Global) -> Result<Items<Block>, AllocError> {
     Ok(made)
 }
 
-#[test]
-fn skolem_terms_stand_for_their_variables(rt: HostRuntime) -> Result<(), Fail> {
-    let alloc = rt.alloc();
+/// Prints what stands for the variable 0, a predicate of the variable 2 with what stands for it, and its variables.
+pub fn show_instance<R: Runtime>(rt: &R, alloc: Global) -> io::Result<()> {
     let passed = blocks(alloc)?;
-    assert!(rt; term_of(passed.as_slice(), 0).is_none());
+    println!(rt; "{:?}", term_of(passed.as_slice(), 0))?;
     let atom = holds(alloc, Kind::Predicate, Term::Var(2))?;
-    let made = atom_instance(alloc, passed.as_slice(), &atom)?;
-    let wanted = holds(alloc, Kind::Predicate, skolem(alloc, 6)?)?;
-    assert!(rt; same_atom(&made, &wanted));
+    println!(rt; "{:?}", atom_instance(alloc, passed.as_slice(), &atom)?)?;
     let mut found = Items::new(alloc);
     add_term_variables(&skolem(alloc, 6)?, &mut found)?;
-    assert!(rt; found.len() == 1);
-    Ok(())
+    println!(rt; "{:?}", found.as_slice())
 }
 
-/// Adds an atom of the variable 0; false where there is no memory.
-fn added(alloc: Global, clause: &mut Clause, sign: bool, kind: Kind) -> Result<bool, AllocError> {
-    match add_literal(clause, sign, holds(alloc, kind, Term::Var(0))?) {
-        Ok(()) => Ok(true),
-        Err(Stop::Huge) => Ok(false),
-        Err(Stop::Memory) => Err(AllocError),
-    }
-}
-
-#[test]
-fn literals_go_to_their_parts(rt: HostRuntime) -> Result<(), Fail> {
-    let alloc = rt.alloc();
+/// Prints what comes of adding literals of the variable 0, and the parts of the clause.
+pub fn show_literals<R: Runtime>(rt: &R, alloc: Global) -> io::Result<()> {
     let mut clause = Clause::new(alloc);
     for (sign, kind) in [
         (true, Kind::Predicate),
@@ -76,10 +59,10 @@ fn literals_go_to_their_parts(rt: HostRuntime) -> Result<(), Fail> {
         (false, Kind::Predicate),
         (false, Kind::Sort),
     ] {
-        assert!(rt; added(alloc, &mut clause, sign, kind)?);
+        let atom = holds(alloc, kind, Term::Var(0))?;
+        println!(rt; "{:?}", add_literal(&mut clause, sign, atom))?;
     }
-    for part in [Part::Constraint, Part::Antecedent, Part::Succedent] {
-        assert!(rt; clause.part(part).len() == 1);
-    }
-    Ok(())
+    println!(rt; "{:?}", clause.constraint.as_slice())?;
+    println!(rt; "{:?}", clause.antecedent.as_slice())?;
+    println!(rt; "{:?}", clause.succedent.as_slice())
 }

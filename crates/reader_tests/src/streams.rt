@@ -1,103 +1,79 @@
 //! Streams in memory and the standard ones over memory: pieces, limits, and calls that fail.
 use outside_io::{
-    MemorySink, MemorySource, ReadError, Sink, Source, StdSink, StdSource, SureSink, SureSource,
-    WriteError, read_all, write_all,
+    MemorySink, MemorySource, Sink, Source, StdSink, StdSource, SureSink, SureSource, read_all,
+    write_all,
 };
-use std::alloc::Global;
-use std::test::Fail;
+use std::alloc::{AllocError, Global};
+use std::io;
+use std::rt::Runtime;
 
-/// The bytes 0, 1, 2, .. below `len`.
-fn rising(alloc: Global, len: u8) -> Result<Vec<u8>, Fail> {
-    let mut bytes = Vec::with_capacity(alloc, usize::from(len))?;
-    for byte in 0..len {
-        bytes.push(byte)?;
+/// The numbers of a text.
+fn numbers(alloc: Global, text: &str) -> Result<Vec<u64>, AllocError> {
+    let mut found = Vec::new(alloc);
+    for word in text.split_whitespace() {
+        found.push(word.parse().unwrap_or(0))?;
     }
-    Ok(bytes)
+    Ok(found)
 }
 
-#[test]
-fn reads_in_pieces_to_the_end_and_to_the_limit(rt: HostRuntime) -> Result<(), Fail> {
-    let alloc = rt.alloc();
-    let whole = rising(alloc, 40)?;
-    for limit in [40, 41, usize::MAX] {
-        let mut source = MemorySource::new(alloc, rising(alloc, 40)?, 16, Vec::new(alloc));
-        let bytes = read_all(alloc, &mut source, limit)?;
-        assert_eq!(rt; bytes.as_slice(), whole.as_slice(), "at {limit}");
-        assert_eq!(rt; source.read(&mut [0; 4]), Ok(0), "at {limit}");
-    }
-    for limit in [0, 15, 16, 39] {
-        let mut source = MemorySource::new(alloc, rising(alloc, 40)?, 16, Vec::new(alloc));
-        assert_eq!(rt;
-            read_all(alloc, &mut source, limit).err(),
-            Some(ReadError::TooLong { limit }),
-            "at {limit}"
-        );
+/// For each limit reads to the end and then once more, and prints what came.
+fn show_source<R: Runtime, S: Source>(
+    rt: &R,
+    alloc: Global,
+    source: &mut S,
+    limits: &str,
+) -> io::Result<()> {
+    for limit in limits.split_whitespace() {
+        let limit = limit.parse().unwrap_or(usize::MAX);
+        println!(rt; "{:?}", read_all(alloc, source, limit))?;
+        let mut next = [0; 32];
+        println!(rt; "{:?}, {}", source.read(&mut next), next[0])?;
     }
     Ok(())
 }
 
-#[test]
-fn the_second_read_fails_and_the_third_goes_on(rt: HostRuntime) -> Result<(), Fail> {
-    let alloc = rt.alloc();
-    let mut source = MemorySource::new(alloc, rising(alloc, 40)?, 16, vec![in alloc; 2]?);
-    assert_eq!(rt;
-        read_all(alloc, &mut source, 100).err(),
-        Some(ReadError::Fault)
-    );
-    let mut next = [0; 32];
-    assert_eq!(rt; source.read(&mut next), Ok(16));
-    assert_eq!(rt; next[0], 16);
-    assert_eq!(rt;
-        read_all(alloc, &mut source, 100)?.as_slice(),
-        [32, 33, 34, 35, 36, 37, 38, 39].as_slice()
-    );
+/// Writes each of the words, and prints what came.
+fn show_sink<R: Runtime, K: Sink>(rt: &R, sink: &mut K, words: &str) -> io::Result<()> {
+    for word in words.split_whitespace() {
+        println!(rt; "{:?}", write_all(sink, word.as_bytes()))?;
+    }
     Ok(())
 }
 
-#[test]
-fn the_second_write_fails_and_the_third_goes_on(rt: HostRuntime) -> Result<(), Fail> {
-    let alloc = rt.alloc();
-    let bytes = rising(alloc, 12)?;
-    let mut sink = MemorySink::new(alloc, 5, vec![in alloc; 2]?);
-    assert_eq!(rt;
-        write_all(&mut sink, bytes.as_slice()),
-        Err(WriteError::Fault)
-    );
-    assert_eq!(rt; sink.written(), [0, 1, 2, 3, 4].as_slice());
-    assert_eq!(rt; write_all(&mut sink, &[9; 6]), Ok(()));
-    assert_eq!(rt;
-        sink.written(),
-        [0, 1, 2, 3, 4, 9, 9, 9, 9, 9, 9].as_slice()
-    );
-    Ok(())
-}
-
-#[test]
-fn the_sure_kinds_pass_all_on(rt: HostRuntime) -> Result<(), Fail> {
-    let alloc = rt.alloc();
-    let mut source = SureSource::new(alloc, rising(alloc, 40)?, 7);
-    let bytes = read_all(alloc, &mut source, 40)?;
-    let mut sink = SureSink::new(alloc);
-    write_all(&mut sink, &[1, 2, 3])?;
-    write_all(&mut sink, bytes.as_slice())?;
-    assert_eq!(rt; sink.written().len(), 43);
-    assert_eq!(rt; &sink.written()[..5], [1, 2, 3, 0, 1].as_slice());
-    Ok(())
-}
-
-#[test]
-fn the_standard_kinds_adapt_any_reader_and_writer(rt: HostRuntime) -> Result<(), Fail> {
-    let alloc = rt.alloc();
-    let mut source = StdSource::new([5u8, 6, 7].as_slice());
-    assert_eq!(rt;
-        read_all(alloc, &mut source, 3)?.as_slice(),
-        [5, 6, 7].as_slice()
-    );
-    let mut room = [0; 5];
-    let mut sink = StdSink::new(room.as_mut_slice());
-    assert_eq!(rt; write_all(&mut sink, &[5, 6, 7]), Ok(()));
-    assert_eq!(rt; write_all(&mut sink, &[8, 9, 10]), Err(WriteError::Fault));
-    drop(sink);
-    assert_eq!(rt; room, [5, 6, 7, 8, 9]);
-    Ok(())
+/// Tries a source or a sink of the text, whose calls of these numbers fail.
+pub fn show_stream<R: Runtime>(
+    rt: &R,
+    alloc: Global,
+    what: &str,
+    text: &str,
+    failing: &str,
+    limits: &str,
+) -> io::Result<()> {
+    let bytes = Vec::from_slice(alloc, text.as_bytes())?;
+    let failing = numbers(alloc, failing)?;
+    match what {
+        "memory source" => show_source(
+            rt,
+            alloc,
+            &mut MemorySource::new(alloc, bytes, 16, failing),
+            limits,
+        ),
+        "sure source" => show_source(rt, alloc, &mut SureSource::new(alloc, bytes, 7), limits),
+        "standard source" => show_source(rt, alloc, &mut StdSource::new(bytes.as_slice()), limits),
+        "memory sink" => {
+            let mut sink = MemorySink::new(alloc, 5, failing);
+            show_sink(rt, &mut sink, text)?;
+            println!(rt; "{:?}", sink.written())
+        }
+        "sure sink" => {
+            let mut sink = SureSink::new(alloc);
+            show_sink(rt, &mut sink, text)?;
+            println!(rt; "{:?}", sink.written())
+        }
+        _ => {
+            let mut room = [0; 5];
+            show_sink(rt, &mut StdSink::new(room.as_mut_slice()), text)?;
+            println!(rt; "{room:?}")
+        }
+    }
 }

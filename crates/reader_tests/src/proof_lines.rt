@@ -6,7 +6,8 @@ use spl_symbols::Signature;
 use spl_terms::{Clause, Items, Part, Spot, Term};
 use spl_truth::Subst;
 use std::alloc::{AllocError, Global};
-use std::test::Fail;
+use std::io;
+use std::rt::Runtime;
 
 /// The substitution of these variables.
 fn subst(alloc: Global, variables: &[u32]) -> Result<Subst, AllocError> {
@@ -21,12 +22,10 @@ fn subst(alloc: Global, variables: &[u32]) -> Result<Subst, AllocError> {
 fn line(alloc: Global, rule: Rule, parents: &[u32]) -> Result<Line, AllocError> {
     let parents = Items::from_slice(alloc, parents)?;
     let deps = Deps::one(alloc, Assumption { split: 7, side: 2 })?;
+    let clause = Clause::new(alloc);
     Ok(Line {
         step: Step { rule, parents },
-        stated: Statement {
-            clause: Clause::new(alloc),
-            deps,
-        },
+        stated: Statement { clause, deps },
     })
 }
 
@@ -70,22 +69,8 @@ fn assume(side: u32, negated: Option<u32>) -> Rule {
     Rule::Assume { side, negated }
 }
 
-const TEXT: &[u8] = b"017list_of_proof(spl).
-step(1,cl([],[],[]),inp,[],[no:3,dep:[7-2]]).
-step(2,cl([],[],[]),res,[1,2],[i:0,part:con,j:1,s:[?2,?3],t:[],dep:[7-2]]).
-step(3,cl([],[],[]),fac,[2],[s:[?5],dep:[7-2]]).
-step(4,cl([],[],[]),par,[5,6],[i:2,dir:rl,part:suc,j:1,pos:[0,3],s:[],t:[?4],dep:[7-2]]).
-step(5,cl([],[],[]),ref,[3],[j:4,s:[],dep:[7-2]]).
-step(6,cl([],[],[]),eqf,[4],[i:1,idir:lr,j:2,jdir:rl,s:[],dep:[7-2]]).
-step(7,cl([],[],[]),asm,[1],[side:1,neg:no,dep:[7-2]]).
-step(8,cl([],[],[]),asm,[1],[side:2,neg:5,dep:[7-2]]).
-step(9,cl([],[],[]),cab,[1,2,3],[dep:[7-2]]).
-end_of_list.
-";
-
-#[test]
-fn each_rule_has_its_text(rt: HostRuntime) -> Result<(), Fail> {
-    let alloc = rt.alloc();
+/// A line by each kind of rule.
+fn lines(alloc: Global) -> Result<Vec<Line>, AllocError> {
     let s = subst(alloc, &[5])?;
     let none = subst(alloc, &[])?;
     let rows: [(Rule, &[u32]); 9] = [
@@ -103,13 +88,21 @@ fn each_rule_has_its_text(rt: HostRuntime) -> Result<(), Fail> {
     for (rule, parents) in rows {
         lines.push(line(alloc, rule, parents)?)?;
     }
+    Ok(lines)
+}
+
+/// Prints a number and the lines.
+pub fn show_proof<R: Runtime>(rt: &R, alloc: Global) -> io::Result<()> {
+    let lines = lines(alloc)?;
     if lines.len() > 10 {
-        return Err(Fail::new("too many lines"));
+        return Ok(());
     }
     let mut out = Vec::new(alloc);
     push_bytes(&mut out, b"0")?;
     push_number(alloc, &mut out, 17)?;
     let out = print_proof(alloc, out, &Signature::new(alloc), lines.as_slice())?;
-    assert_eq!(rt; out.as_slice(), TEXT);
-    Ok(())
+    print!(rt;
+        "{}",
+        std::str::from_utf8(out.as_slice()).unwrap_or("no text")
+    )
 }
