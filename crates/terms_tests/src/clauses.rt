@@ -1,6 +1,5 @@
 //! Clauses: their size and its limit, repeated atoms, order, and variants.
-use crate::makers::{atoms, clause, symbol};
-use crate::rows::Row;
+use clause_texts::{Row, atoms, clause, symbol};
 use spl_terms::{
     Atom, Clause, ClauseBuilder, Items, Part, PushError, Term, order_of, same_clause, symbols_of,
     variant,

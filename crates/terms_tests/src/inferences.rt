@@ -2,15 +2,14 @@
 ghost use Rattle.std.specs.Prelude.{◌≡◌, IfOk};
 ghost use Rattle.spl_terms.specs.InOrder.{IsInOrder};
 
-use crate::makers::clause;
-use crate::rows::{Row, number};
 use calculus::Kept;
+use clause_texts::{Row, clause, number, symbol};
 use dep_sets::Deps;
 use proof_steps::{Line, Statement};
 use sort_inference::{solved, sort_steps, unsolved_atom};
-use spl_terms::{Clause, same_clause, symbols_of};
+use spl_terms::{Atom, Clause, Items, Term, same_clause, symbols_of};
 use std::alloc::{AllocError, Global};
-use superposition::{infer_pair, infer_self};
+use superposition::{InferError, infer_pair, infer_self};
 
 /// The clause of a text in order.
 fn ordered(alloc: Global, text: &str) -> Result<Clause, AllocError>
@@ -111,4 +110,43 @@ pub fn unsolved(alloc: Global, row: &Row) -> Result<bool, AllocError> {
     let given = clause(alloc, row.text(1))?;
     let found = unsolved_atom(&given);
     Ok(found == place(row.text(2)) && solved(&given) == row.has_none(2))
+}
+
+/// `symbol(0, .., 0, a, .., a)` with so many of each.
+fn wide(alloc: Global, copies: usize, constants: usize) -> Result<Atom, AllocError> {
+    let mut args = Items::new(alloc);
+    for _ in 0..copies {
+        args.push(Term::Var(0))?;
+    }
+    for _ in 0..constants {
+        args.push(Term::App(symbol(b'a'), Items::new(alloc)))?;
+    }
+    Ok(Atom::Holds(symbol(b'Q'), args))
+}
+
+/// How many symbols a refusal of the inferences of two clauses names; 0 where there is one conclusion.
+fn refused(alloc: Global, first: Clause, second: Clause) -> Result<u64, AllocError> {
+    let first = first.into_ordered(alloc)?;
+    let second = second.into_ordered(alloc)?;
+    if symbols_of(&first) > 4096 || symbols_of(&second) > 4096 {
+        return Err(AllocError);
+    }
+    let given = kept(alloc, 1, first, None);
+    let other = kept(alloc, 2, second, Some(0));
+    let mut out = Vec::new(alloc);
+    match infer_pair(alloc, &given, &other, &mut out) {
+        Ok(()) => Ok(out.len() as u64 ^ 1),
+        Err(InferError::Big { symbols }) => Ok(symbols),
+        Err(InferError::Memory) => Err(AllocError),
+    }
+}
+
+/// `large COPIES CONSTANTS SYMBOLS`: P(f(a, b)) with P(0) before an atom of so many variables 0 and so many constants: how
+/// many symbols the resolvent has where it is refused, else 0.
+pub fn large(alloc: Global, row: &Row) -> Result<bool, AllocError> {
+    let mut other = clause(alloc, "|P0|")?;
+    let atom = wide(alloc, row.number(1) as usize, row.number(2) as usize)?;
+    other.succedent.push(atom)?;
+    let answer = refused(alloc, clause(alloc, "||Pfab")?, other)?;
+    Ok(answer == row.number(3) as u64)
 }

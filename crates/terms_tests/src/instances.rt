@@ -1,7 +1,6 @@
 //! Instances of clauses, their limit, and what is true and trivial.
 use crate::clauses::refused;
-use crate::makers::{atoms, clause, is_clause, symbol, term, terms};
-use crate::rows::Row;
+use clause_texts::{Row, atoms, clause, is_clause, symbol, term, terms};
 use spl_terms::{Items, Term, same_clause};
 use spl_truth::{Subst, apply, holds, instance, is_ground, is_tautology, replaced};
 use std::alloc::{AllocError, Global};

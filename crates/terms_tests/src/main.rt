@@ -5,15 +5,13 @@
 mod clauses;
 mod inferences;
 mod instances;
-mod makers;
 mod order;
 mod parts;
-mod rows;
 mod sets;
 mod steps;
 mod unifiers;
 
-use rows::Row;
+use clause_texts::Row;
 use std::alloc::{AllocError, Global};
 use std::io;
 
@@ -60,6 +58,7 @@ fn is_right(alloc: Global, row: &Row) -> Result<bool, AllocError> {
         "conclude" => steps::concluded(alloc, row),
         "pair" => inferences::pair(alloc, row),
         "own" => inferences::own(alloc, row),
+        "large" => inferences::large(alloc, row),
         "sorts" => inferences::sorts(alloc, row),
         "unsolved" => inferences::unsolved(alloc, row),
         "proof" => steps::proof(alloc, row),

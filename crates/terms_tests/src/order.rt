@@ -1,6 +1,5 @@
 //! The order on terms, and the maximal and eligible places.
-use crate::makers::{clause, part, symbol, term};
-use crate::rows::{Row, number};
+use clause_texts::{Row, clause, number, part, symbol, term};
 use kbo::{Order, View, compare, compare_views, eligible, maximal};
 use spl_terms::{Clause, Part, Term, symbols_of};
 use std::alloc::{AllocError, Global};

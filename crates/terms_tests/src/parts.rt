@@ -1,7 +1,6 @@
 //! How clauses are parted, and the negations of their atoms.
-use crate::makers::{clause, is_clause};
-use crate::rows::Row;
 use clause_parts::{in_order, negation, part_of_side, split_of};
+use clause_texts::{Row, clause, is_clause};
 use std::alloc::{AllocError, Global};
 
 /// `parts CLAUSE LEFT RIGHT yes|no`, or `parts CLAUSE none`: the parts, and whether the left one is without variables.

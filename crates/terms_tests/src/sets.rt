@@ -1,5 +1,5 @@
 //! Lists, sets of assumptions, and signatures.
-use crate::rows::Row;
+use clause_texts::Row;
 use dep_sets::{Assumption, Deps};
 use dfg_tokens::is_name;
 use spl_symbols::{DeclareError, Signature};

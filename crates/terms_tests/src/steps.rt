@@ -1,6 +1,5 @@
 //! What steps conclude, and when lists of lines are proofs.
-use crate::makers::{clause, part, terms};
-use crate::rows::{Row, number};
+use clause_texts::{Row, clause, number, part, terms};
 use dep_sets::{Assumption, Deps};
 use proof_steps::{Line, Rule, Statement, Step, check, conclude, conclude_from_lines};
 use spl_terms::{Clause, Items, Part, Spot, same_clause};

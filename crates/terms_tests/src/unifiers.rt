@@ -1,6 +1,5 @@
 //! Unifiers and matchers of terms over the first variables.
-use crate::makers::{symbol, term, terms};
-use crate::rows::Row;
+use clause_texts::{Row, symbol, term, terms};
 use spl_terms::{Items, Term, all_equal};
 use spl_truth::Subst;
 use std::alloc::{AllocError, Global};

@@ -1,4 +1,4 @@
-//! Terms, atoms and clauses out of short texts, which the tests of this crate share.
+//! Terms, atoms and clauses out of short texts.
 //!
 //! A text is in prefix notation: f and T take two arguments, g, h, p, s and K, P, Q, S take one, a to e take none, `=` is an
 //! equation, the digits are the variables 0 to 9, and w, x, y, z those with the numbers 9000, 64, 70 and 9001. Capital
