@@ -2,9 +2,11 @@
 use Rattle.std.specs.Prelude.{Contains, bit_and}
 use Rattle.std.specs.Int.Bits.{and_self, and_zero_l}
 use Rattle.std.specs.List.{slice_get}
-use Rattle.std.proofs.Common.{◌≡◌, inl, inr, ℕ, zero, suc, ◌+◌, ◌-◌, ◌<◌, ◌≤◌, Bool, true, false, List, [], ◌∷◌, ◌++◌, length, Some, None, refl, sym, ap, ◌∙◌, subst, arith}
+use Rattle.std.proofs.Common.{◌≡◌, inl, inr, ℕ, zero, suc, ◌+◌, ◌-◌, ◌%◌, ◌^◌, ◌<◌, ◌≤◌, Bool, true, false, List, [], ◌∷◌, ◌++◌, length, Some, None, refl, sym, ap, ◌∙◌, subst, arith}
 use Rattle.std.proofs.lemmas.Bool.{eq-eqb, cases_lt}
 use Rattle.std.proofs.lemmas.List.Elements.{Contains-append_left, Contains-append_right}
+use Rattle.std.proofs.Math.Nat.{add_comm}
+use Rattle.spl_terms.specs.Hashes.{mixed, term_hash}
 use Rattle.spl_terms.specs.Lists.{numbered}
 use Rattle.spl_terms.specs.ListLaws.{numbered-within, numbered-there}
 use Rattle.spl_terms.specs.SameLaws.{flipped, same_cases, same_turned}
@@ -143,7 +145,7 @@ found_clause entries c mask w x y z is one wx two xy three yz four v f =
 
 flipped_key : (s : ℕ) (a : Atom) → key s (flipped a) ≡ key s a
 flipped_key s (Holds p ts) = refl
-flipped_key s (Equal t u) = refl
+flipped_key s (Equal t u) = ap (λ n. (mixed 4 (n % 2 ^ 64) + s) % 2 ^ 64) (add_comm (term_hash u) (term_hash t))
 
 same_key : (s : ℕ) (a b : Atom) → is_same a b ≡ true → key s a ≡ key s b
 same_key s a b e = elim (same_cases a b e) [

@@ -24,7 +24,7 @@ use Rattle.proof_steps.specs.declared.step.Line.{Line}
 use Rattle.proof_steps.specs.Steps.{when, has_entries, factored, reflection, equality_factoring}
 use Rattle.calculus.specs.declared.kept.Kept.{Kept}
 use Rattle.calculus.specs.Inferences.{Reading, clause_of, eligible_in, by_unifier, atom_unifier, sides_unifier, factoring_unifier, readings, equations_of, other_atoms, factor_equation, factorings, reflections, equality_factorings}
-use Rattle.calculus.proofs.Lifting.{atom_below, length-unifier}
+use Rattle.calculus.specs.LiftingLaws.{atom_below, length-unifier}
 use Rattle.superposition.specs.declared.equations.Equation.{Equation}
 use Rattle.superposition.specs.Words.{plain, IsAtomBelow, AreAtomsBelow, AreLentBelow, line_of}
 use Rattle.superposition.specs.Readings.{reading_of, AreLeftSidesBelow, factor_with, factor_apart}
@@ -48,23 +48,14 @@ factored_line p i j a b vars s made apart n unified is =
     ∙ sym (ap (by_unifier p Factor) known)
     ∙ sym (ap (λ t. if not t then by_unifier p Factor (atom_unifier (variables (clause_of p)) a b) else []) (ne_eqb j i (λ e. apart (sym e))))
 
-pub factored_itself : (p : Kept) (i j : ℕ) (a b : Atom) → i ≡ j → [] ≡ factor_with p (i, a) (j, b)
-factored_itself p i j a b same = sym (ap (λ t. if not t then by_unifier p Factor (atom_unifier (variables (clause_of p)) a b) else []) (eq-eqb j i (sym same)))
-
 pub none_either_way : (b : Bool) (xs : List Line) → xs ≡ [] → [] ≡ (if b then xs else [])
 none_either_way true xs e = sym e
 none_either_way false xs e = refl
-
-pub not_factored : (p : Kept) (i j : ℕ) (a b : Atom) (vars : ℕ) → vars ≡ variables (clause_of p) → atom_unifier vars a b ≡ None → [] ≡ factor_with p (i, a) (j, b)
-not_factored p i j a b vars n none = none_either_way (not (j == i)) _ (ap (by_unifier p Factor) (ap (λ k. atom_unifier k a b) (sym n) ∙ none))
 
 pub reflected_line : (p : Kept) (j : ℕ) (a : Atom) (vars : ℕ) (s : Subst) (made : Option Clause) → vars ≡ variables (clause_of p) → sides_unifier vars a ≡ Some s.terms → option_map in_order made ≡ reflection j s.terms (clause_of p) →
     option_to_list (option_map (line_of p (Reflex j s)) made) ≡ by_unifier p (Reflex j) (sides_unifier (variables (clause_of p)) a)
 reflected_line p j a vars s made n unified e =
     ap option_to_list (own_line p (Reflex j s) made _ e) ∙ sym (ap (by_unifier p (Reflex j)) (ap (λ k. sides_unifier k a) (sym n) ∙ unified))
-
-pub not_reflected : (p : Kept) (j : ℕ) (a : Atom) (vars : ℕ) → vars ≡ variables (clause_of p) → sides_unifier vars a ≡ None → [] ≡ by_unifier p (Reflex j) (sides_unifier (variables (clause_of p)) a)
-not_reflected p j a vars n none = sym (ap (by_unifier p (Reflex j)) (ap (λ k. sides_unifier k a) (sym n) ∙ none))
 
 pub length-sides_unifier : (vars : ℕ) (a : Atom) (u : List Term) → sides_unifier vars a ≡ Some u → length u ≡ vars
 length-sides_unifier vars (Holds f ts) u e = absurd (cc)
@@ -89,18 +80,6 @@ module _ (p : Kept) (e d : Reading) (vars : ℕ) (n : vars ≡ variables (clause
       ap option_to_list (own_line p (EqFactor e.place e.right d.place d.right s) made _ is)
       ∙ sym (ap (by_unifier p (EqFactor e.place e.right d.place d.right)) (known (Some s.terms) unified ∙ ap (λ t. when t s.terms) high))
       ∙ sym (ap (λ t. if not t then factor_equation p e d else []) (ne_eqb d.place e.place (λ e. apart (sym e))))
-
-  pub equation_itself : e.place ≡ d.place → [] ≡ factor_apart p e d
-  equation_itself same = sym (ap (λ t. if not t then factor_equation p e d else []) (eq-eqb d.place e.place (sym same)))
-
-  no_equation : factoring_unifier (variables (clause_of p)) e d ≡ None → [] ≡ factor_apart p e d
-  no_equation none = none_either_way (not (d.place == e.place)) _ (ap (by_unifier p (EqFactor e.place e.right d.place d.right)) none)
-
-  pub equation_apart : unifier vars e.left_side d.left_side ≡ None → [] ≡ factor_apart p e d
-  equation_apart none = no_equation (known None none)
-
-  pub equation_below : (u : List Term) → unifier vars e.left_side d.left_side ≡ Some u → is_not_below u e.left_side e.right_side ≡ false → [] ≡ factor_apart p e d
-  equation_below u unified low = no_equation (known (Some u) unified ∙ ap (λ t. when t u) low)
 
 -- ---- variables
 

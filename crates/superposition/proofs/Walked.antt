@@ -34,7 +34,7 @@ use Rattle.proof_steps.specs.Spots.{arguments_step, arguments_of, subterm, term_
 use Rattle.proof_steps.specs.Steps.{when, states, paramodulation}
 use Rattle.calculus.specs.declared.kept.Kept.{Kept}
 use Rattle.calculus.specs.Inferences.{Reading, clause_of, variables_of_both, first_part, second_part, by_entries, by_unifier_of_both, renamed_apart, eligible_in, equations_of, placed, paths_step, paths_in, paths_of, spots_in, spots_of, is_upper_side, rewriting_unifier, superpose, superpositions}
-use Rattle.calculus.proofs.Lifting.{all_below}
+use Rattle.calculus.specs.LiftingLaws.{all_below}
 use Rattle.calculus.proofs.Superposing.{term_under-inner}
 use Rattle.superposition.specs.declared.equations.Equation.{Equation}
 use Rattle.superposition.specs.declared.rewriting.Rewriting.{Rewriting}
@@ -65,12 +65,6 @@ module _ (p q : Kept) (e : Reading) (part : Part) (place : ℕ) (b : Atom) (path
 
   abbrev lines : Option (List Term) → List Line
   lines = by_unifier_of_both p q (λ s t. Paramodulate e.place e.right (spot_at part place path) s t)
-
-  pub superposed_apart : unifier both e.left_side w ≡ None → [] ≡ superpose_raised p q e part place b path
-  superposed_apart none = sym (ap lines (known None none))
-
-  pub superposed_below : (u : List Term) → unifier both e.left_side w ≡ Some u → (is_not_below u e.left_side e.right_side && is_upper_side u b path) ≡ false → [] ≡ superpose_raised p q e part place b path
-  superposed_below u unified low = sym (ap lines (known (Some u) unified ∙ ap (λ t. when t u) low))
 
   pub superposed_line : (first : ℕ) (u : List Term) (s t : Subst) (held : List ℕ) (made : Option Clause) → first ≡ variables (clause_of p) → unifier both e.left_side w ≡ Some u → (is_not_below u e.left_side e.right_side && is_upper_side u b path) ≡ true → s.terms ≡ take first u → t.terms ≡ drop first u → held ≡ path →
       option_map in_order made ≡ paramodulation e.place e.right (spot_at part place held) s.terms t.terms (clause_of p) (clause_of q) →
@@ -123,12 +117,6 @@ module _ (r : Rewriting) where
   pub walk_predicate : (a : Atom) (f : Symbol) (ts : List Term) → a ≡ Holds f ts → flat_map (rewrite_argument r []) (enumerate_from 0 ts) ≡ flat_map (rewrite r) (paths_of a)
   walk_predicate a f ts is = sym (ap (λ x. flat_map (rewrite r) (paths_of x)) is ∙ walk_arguments [] 0 ts)
 
-  pub walk_equation : (a : Atom) (s t : Term) → a ≡ Equal s t → rewrite_argument r [] (0, s) ++ rewrite_argument r [] (1, t) ≡ flat_map (rewrite r) (paths_of a)
-  walk_equation a s t is = sym (
-      ap (λ x. flat_map (rewrite r) (paths_of x)) is
-      ∙ walk_arguments [] 0 (s ∷ t ∷ [])
-      ∙ ap (λ l. rewrite_argument r [] (0, s) ++ l) (sym (nil_right (rewrite_argument r [] (1, t)))))
-
 -- ---- what stands there
 
 subterm_deeper : (path : List ℕ) (w : Term) (f : Symbol) (ts : List Term) (k : ℕ) (t : Term) → subterm path w ≡ Some (App f ts) → slice_get ts k ≡ Some t → subterm (path ++ k ∷ []) w ≡ Some t
@@ -150,9 +138,6 @@ stands_deeper (j ∷ path) b w f ts stands is k t there = by_option (slice_get (
     by_option : (o : Option Term) → option_and_then (subterm path) o ≡ Some (App f ts) → option_and_then (subterm (path ++ k ∷ [])) o ≡ Some t
     by_option None h = absurd (cc)
     by_option (Some x) h = subterm_deeper path x f ts k t h there
-
-pub stands_in_predicate : (a : Atom) (f : Symbol) (ts : List Term) → a ≡ Holds f ts → (k : ℕ) (t : Term) → slice_get ts k ≡ Some t → term_under (k ∷ []) a ≡ Some t
-stands_in_predicate a f ts is k t there = ap (term_under (k ∷ [])) is ∙ ap (option_and_then (subterm [])) there
 
 -- ---- paths of atoms whose variables are raised
 
@@ -262,6 +247,3 @@ module _ (r : Rewriting) (path held : List ℕ) (same : held ≡ path) (t : Term
 
 pub argument_below : (r : Rewriting) (path held : List ℕ) (k : ℕ) (t : Term) → held ≡ path ++ k ∷ [] → rewrite_below r held (paths_in t) ≡ rewrite_argument r path (k, t)
 argument_below r path held k t same = ap (λ p. rewrite_below r p (paths_in t)) same ∙ walk_deeper r path k t
-
-pub stands_at : (r : Rewriting) (path held : List ℕ) (t : Term) → held ≡ path → term_under path r.atom.now ≡ Some t → term_under held r.atom.now ≡ Some t
-stands_at r path held t same stands = ap (λ p. term_under p r.atom.now) same ∙ stands

@@ -77,7 +77,9 @@ pub(crate) fn append_from_both(
     rule: Rule,
     out: &mut Vec<Line>,
 ) -> Result<(), InferError>
-    ensures { Appended (option_to_list (option_map (line_of_both p.now q.now rule) made)) out.old.items out.new.items result }
+    ensures { Appended
+        (option_to_list (option_map (line_of_both p.now q.now rule) made))
+        out.old.items out.new.items result }
 {
     let Some(clause) = made else {
         return Ok(());

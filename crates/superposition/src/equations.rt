@@ -27,7 +27,8 @@ fn add_readings<'a>(
     atom: &'a Atom,
     made: &mut Vec<Equation<'a>>,
 ) -> Result<(), AllocError>
-    ensures { OnOk result (map reading_of made.new.items ≡ map reading_of made.old.items ++ readings (place, atom.now)) }
+    ensures { OnOk result (map reading_of made.new.items
+        ≡ map reading_of made.old.items ++ readings (place, atom.now)) }
 {
     if let Atom::Equal(left, right) = atom {
         made.push(Equation {

@@ -33,7 +33,8 @@ fn from_to(alloc: Global, p: &Kept, q: &Kept, out: &mut Vec<Line>) -> Result<(),
 ///
 /// # Errors
 ///
-/// `Big` exactly where the next conclusion has more than 4,096 symbols; `Memory` only where there is no memory, or an instance
+/// `Big` exactly where the next conclusion has more than 4,096 symbols; `Memory` only where there is no memory, or
+/// an instance
 /// of more than 4,294,967,295 symbols would have to be compared. What comes before it in the list was appended.
 pub fn infer_pair(
     alloc: Global,

@@ -10,7 +10,8 @@ use spl_terms::{Atom, Term};
 use spl_truth::{Subst, replaced};
 use std::alloc::{AllocError, Global};
 
-/// Whether the instance of the first term is neither less than that of the second nor equal to it. Instances that are too
+/// Whether the instance of the first term is neither less than that of the second nor equal to it. Instances that
+/// are too
 /// large to compare are want of memory.
 pub(crate) fn is_not_below(
     alloc: Global,
@@ -33,7 +34,8 @@ pub(crate) fn is_not_below(
     }
 }
 
-/// Whether the path lies in a side of the equation whose instance isn't below that of the other one; a predicate atom has no
+/// Whether the path lies in a side of the equation whose instance isn't below that of the other one; a predicate
+/// atom has no
 /// such condition.
 fn is_upper_side(
     alloc: Global,
@@ -58,7 +60,8 @@ fn is_upper_side(
     }
 }
 
-/// Whether a superposition keeps the order: the left side isn't below the right one, and the path lies in an upper side.
+/// Whether a superposition keeps the order: the left side isn't below the right one, and the path lies in an upper
+/// side.
 pub(crate) fn keeps_order(
     alloc: Global,
     unifier: &Subst,
@@ -75,7 +78,8 @@ pub(crate) fn keeps_order(
     is_upper_side(alloc, unifier, atom, path)
 }
 
-/// Whether the first term is less than the second one or equal to it, as they stand: then so is each instance. Terms that are
+/// Whether the first term is less than the second one or equal to it, as they stand: then so is each instance.
+/// Terms that are
 /// too large to compare are not judged.
 pub(crate) fn is_always_below(left: &Term, right: &Term) -> bool
     ensures { IsTrue result → (u : List Term) → is_not_below u left.now right.now ≡ false }

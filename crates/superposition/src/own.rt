@@ -6,7 +6,8 @@ ghost use Rattle.spl_terms.specs.InOrder.{IsInOrder, variables};
 ghost use Rattle.spl_truth.specs.Unifiers.{HasVariablesBelow};
 ghost use Rattle.proof_steps.specs.Steps.{has_entries, reflection, equality_factoring};
 ghost use Rattle.proof_steps.specs.declared.step.Rule.TheVariants.{Reflex};
-ghost use Rattle.calculus.specs.Inferences.{clause_of, by_unifier, sides_unifier, factorings, reflections, equality_factorings};
+ghost use Rattle.calculus.specs.Inferences.{clause_of, by_unifier, sides_unifier};
+ghost use Rattle.calculus.specs.Inferences.{factorings, reflections, equality_factorings};
 ghost use Rattle.superposition.specs.Appending.{Appended};
 ghost use Rattle.superposition.specs.Words.{IsAtomBelow, AreLentBelow};
 ghost use Rattle.superposition.specs.Readings.{reading_of, AreLeftSidesBelow, factor_with, factor_apart};
@@ -38,7 +39,9 @@ fn factor(
     requires vars { vars ≡ variables (clause_of p.now) }
     requires first_below { IsAtomBelow vars first.1.now }
     requires second_below { IsAtomBelow vars second.1.now }
-    ensures { Appended (factor_with p.now (first.entry.0, first.entry.1.now) (second.entry.0, second.entry.1.now)) out.old.items out.new.items result }
+    ensures { Appended
+        (factor_with p.now (first.entry.0, first.entry.1.now) (second.entry.0, second.entry.1.now))
+        out.old.items out.new.items result }
 {
     let (i, a) = first;
     let (j, b) = second;
@@ -64,7 +67,9 @@ fn factor_each(
     requires vars { vars ≡ variables (clause_of p.now) }
     requires first_below { IsAtomBelow vars first.1.now }
     requires atoms_below { AreLentBelow vars atoms.now }
-    ensures { Appended (flat_map (λ y. factor_with p.now (first.entry.0, first.entry.1.now) (y.0, y.1.now)) atoms.now) out.old.items out.new.items result }
+    ensures { Appended
+        (flat_map (λ y. factor_with p.now (first.entry.0, first.entry.1.now) (y.0, y.1.now)) atoms.now)
+        out.old.items out.new.items result }
 {
     for k in 0..atoms.len() {
         if let Err(error) = factor(alloc, p, vars, first, atoms[k], out) {
@@ -86,7 +91,9 @@ fn factor_all(
     requires vars { vars ≡ variables (clause_of p.now) }
     requires places_below { AreLentBelow vars places.now }
     requires atoms_below { AreLentBelow vars atoms.now }
-    ensures { Appended (flat_map (λ x. flat_map (λ y. factor_with p.now (x.0, x.1.now) (y.0, y.1.now)) atoms.now) places.now) out.old.items out.new.items result }
+    ensures { Appended
+        (flat_map (λ x. flat_map (λ y. factor_with p.now (x.0, x.1.now) (y.0, y.1.now)) atoms.now) places.now)
+        out.old.items out.new.items result }
 {
     for k in 0..places.len() {
         if let Err(error) = factor_each(alloc, p, vars, places[k], atoms, out) {
@@ -133,7 +140,9 @@ fn reflect(
 ) -> Result<(), InferError>
     requires vars { vars ≡ variables (clause_of p.now) }
     requires below { IsAtomBelow vars place.1.now }
-    ensures { Appended (by_unifier p.now (Reflex place.entry.0) (sides_unifier (variables (clause_of p.now)) place.entry.1.now)) out.old.items out.new.items result }
+    ensures { Appended
+        (by_unifier p.now (Reflex place.entry.0) (sides_unifier (variables (clause_of p.now)) place.entry.1.now))
+        out.old.items out.new.items result }
 {
     let (j, atom) = place;
     let Some(s) = unifier_of_sides(alloc, atom, vars)? else {
@@ -153,7 +162,9 @@ fn reflect_all(
 ) -> Result<(), InferError>
     requires vars { vars ≡ variables (clause_of p.now) }
     requires below { AreLentBelow vars places.now }
-    ensures { Appended (flat_map (λ x. by_unifier p.now (Reflex x.0) (sides_unifier (variables (clause_of p.now)) x.1.now)) places.now) out.old.items out.new.items result }
+    ensures { Appended
+        (flat_map (λ x. by_unifier p.now (Reflex x.0) (sides_unifier (variables (clause_of p.now)) x.1.now)) places.now)
+        out.old.items out.new.items result }
 {
     for k in 0..places.len() {
         if let Err(error) = reflect(alloc, p, vars, places[k], out) {
@@ -163,7 +174,8 @@ fn reflect_all(
     Ok(())
 }
 
-/// Appends what equality resolution concludes for each eligible equation of the antecedent, in the order of their places.
+/// Appends what equality resolution concludes for each eligible equation of the antecedent, in the order of their
+/// places.
 ///
 /// # Errors
 ///
@@ -189,13 +201,15 @@ fn factored(
     s: &Subst,
 ) -> Result<Option<Clause>, AllocError>
     requires { has_entries s.now.terms p.now ≡ true }
-    ensures { IfOk result (λ made. option_map in_order made ≡ equality_factoring e.entry.place e.entry.right d.entry.place d.entry.right s.now.terms p.now) }
+    ensures { IfOk result (λ made. option_map in_order made ≡
+        equality_factoring e.entry.place e.entry.right d.entry.place d.entry.right s.now.terms p.now) }
 {
     let first = instance(alloc, s, p)?;
     equality_factored(alloc, e.place, e.right, d.place, d.right, first)
 }
 
-/// Factors an equation with one at another place, if their left sides have a unifier by which the left side of the first
+/// Factors an equation with one at another place, if their left sides have a unifier by which the left side of the
+/// first
 /// isn't below its right side.
 fn factor_equation(
     alloc: Global,
@@ -208,7 +222,9 @@ fn factor_equation(
     requires vars { vars ≡ variables (clause_of p.now) }
     requires e_below { HasVariablesBelow vars e.left_side.now }
     requires d_below { HasVariablesBelow vars d.left_side.now }
-    ensures { Appended (factor_apart p.now (reading_of e.entry) (reading_of d.entry)) out.old.items out.new.items result }
+    ensures { Appended
+        (factor_apart p.now (reading_of e.entry) (reading_of d.entry))
+        out.old.items out.new.items result }
 {
     if e.place == d.place {
         return Ok(());
@@ -243,7 +259,9 @@ fn factor_equation_with_each(
     requires vars { vars ≡ variables (clause_of p.now) }
     requires e_below { HasVariablesBelow vars e.left_side.now }
     requires others_below { AreLeftSidesBelow vars others.now }
-    ensures { Appended (flat_map (λ d. factor_apart p.now (reading_of e.entry) (reading_of d)) others.now) out.old.items out.new.items result }
+    ensures { Appended
+        (flat_map (λ d. factor_apart p.now (reading_of e.entry) (reading_of d)) others.now)
+        out.old.items out.new.items result }
 {
     if is_always_below(e.left_side, e.right_side) {
         return Ok(());
@@ -268,7 +286,9 @@ fn factor_equations(
     requires vars { vars ≡ variables (clause_of p.now) }
     requires equations_below { AreLeftSidesBelow vars equations.now }
     requires others_below { AreLeftSidesBelow vars others.now }
-    ensures { Appended (flat_map (λ e. flat_map (λ d. factor_apart p.now (reading_of e) (reading_of d)) others.now) equations.now) out.old.items out.new.items result }
+    ensures { Appended
+        (flat_map (λ e. flat_map (λ d. factor_apart p.now (reading_of e) (reading_of d)) others.now) equations.now)
+        out.old.items out.new.items result }
 {
     for k in 0..equations.len() {
         if let Err(error) = factor_equation_with_each(alloc, p, vars, equations[k], others, out) {
@@ -278,7 +298,8 @@ fn factor_equations(
     Ok(())
 }
 
-/// Appends what each eligible equation of the succedent, in both directions, gives with each other equation there, in both
+/// Appends what each eligible equation of the succedent, in both directions, gives with each other equation there,
+/// in both
 /// directions.
 ///
 /// # Errors

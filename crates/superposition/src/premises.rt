@@ -1,4 +1,5 @@
-//! What is found once a premise and call: its number of variables, its eligible places, its atoms with raised variables.
+//! What is found once a premise and call: its number of variables, its eligible places, its atoms with raised
+//! variables.
 ghost use Rattle.std.specs.Prelude.{◌≡◌, ◌+◌, ◌≤◌, [], ◌∷◌, ◌++◌, map, filter, IfOk, OnOk};
 ghost use Rattle.spl_truth.specs.Places.{is_eligible};
 ghost use Rattle.spl_terms.specs.declared.term.Term.{Var};
@@ -139,7 +140,8 @@ pub(crate) fn raised_atoms(
     lift: u32,
     atoms: &[(u32, &Atom)],
 ) -> Result<Vec<(u32, Atom)>, AllocError>
-    ensures { IfOk result (λ made. made.items ≡ map (λ x. (x.0, replace_in_atom (λ v. Var (lift + v)) x.1)) (plain atoms.now)) }
+    ensures { IfOk result (λ made. made.items ≡
+        map (λ x. (x.0, replace_in_atom (λ v. Var (lift + v)) x.1)) (plain atoms.now)) }
 {
     let mut made = Vec::with_capacity(alloc, atoms.len())?;
     for k in 0..atoms.len() {

@@ -80,7 +80,9 @@ fn resolve(
     requires both { counts.both ≡ variables_of_both p.now q.now }
     requires a_below { IsAtomBelow counts.both a.now }
     requires b_below { IsAtomBelow counts.both b.now }
-    ensures { Appended (resolve_raised literals.part p.now q.now (literals.i, a.now) (literals.j, b.now)) out.old.items out.new.items result }
+    ensures { Appended
+        (resolve_raised literals.part p.now q.now (literals.i, a.now) (literals.j, b.now))
+        out.old.items out.new.items result }
 {
     let Some(unifier) = unifier_of_atoms(alloc, a, b, counts.both)? else {
         return Ok(());
@@ -114,7 +116,9 @@ fn resolve_each(
     requires both { counts.both ≡ variables_of_both p.now q.now }
     requires a_below { IsAtomBelow counts.both a.now }
     requires atoms_below { AreAtomsBelow counts.both atoms.now }
-    ensures { Appended (flat_map (resolve_raised part p.now q.now (i, a.now)) atoms.now) out.old.items out.new.items result }
+    ensures { Appended
+        (flat_map (resolve_raised part p.now q.now (i, a.now)) atoms.now)
+        out.old.items out.new.items result }
 {
     for k in 0..atoms.len() {
         let (j, b) = &atoms[k];
@@ -141,7 +145,9 @@ fn resolve_all(
     requires both { counts.both ≡ variables_of_both p.now q.now }
     requires places_below { AreLentBelow counts.both places.now }
     requires atoms_below { AreAtomsBelow counts.both atoms.now }
-    ensures { Appended (flat_map (λ x. flat_map (resolve_raised part p.now q.now (x.0, x.1.now)) atoms.now) places.now) out.old.items out.new.items result }
+    ensures { Appended
+        (flat_map (λ x. flat_map (resolve_raised part p.now q.now (x.0, x.1.now)) atoms.now) places.now)
+        out.old.items out.new.items result }
 {
     for k in 0..places.len() {
         let (i, a) = &places[k];
@@ -152,12 +158,14 @@ fn resolve_all(
     Ok(())
 }
 
-/// Appends the resolvents of the eligible predicate atoms of the succedent of p with those of this part of q, in the order
+/// Appends the resolvents of the eligible predicate atoms of the succedent of p with those of this part of q, in
+/// the order
 /// of their places.
 ///
 /// # Errors
 ///
-/// `Big` exactly where the next conclusion has more than 4,096 symbols; `Memory` only where there is no memory. What comes
+/// `Big` exactly where the next conclusion has more than 4,096 symbols; `Memory` only where there is no memory.
+/// What comes
 /// before it in the list was appended.
 pub fn resolutions(
     alloc: Global,

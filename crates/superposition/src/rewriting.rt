@@ -12,7 +12,8 @@ ghost use Rattle.calculus.specs.Inferences.{clause_of, paths_in, superpositions}
 ghost use Rattle.superposition.specs.Appending.{Appended};
 ghost use Rattle.superposition.specs.Words.{AreAtomsBelow};
 ghost use Rattle.superposition.specs.Readings.{reading_of, AreLeftSidesBelow};
-ghost use Rattle.superposition.specs.Walks.{IsCounted, IsReady, superpose_in, superpose_in_parts, rewrite, rewrite_below, rewrite_argument};
+ghost use Rattle.superposition.specs.Walks.{IsCounted, IsReady, superpose_in, superpose_in_parts};
+ghost use Rattle.superposition.specs.Walks.{rewrite, rewrite_below, rewrite_argument};
 
 use crate::appending::append_from_both;
 use crate::equations::{Equation, readings_of};
@@ -57,7 +58,8 @@ fn superposed(
     paramodulated(alloc, e.place, e.right, spot, first, second)
 }
 
-/// Superposes the equation at this term, which stands at the end of the path, if they have a unifier that keeps the order.
+/// Superposes the equation at this term, which stands at the end of the path, if they have a unifier that keeps
+/// the order.
 fn superpose(
     alloc: Global,
     r: Rewriting,
@@ -130,7 +132,9 @@ fn superpose_in_term(
 ) -> Result<(), InferError>
     requires ready { IsReady r }
     requires stands { term_under path.old.items r.atom.now ≡ Some term.now }
-    ensures appended { Appended (rewrite_below r.entry path.old.items (paths_in term.now)) out.old.items out.new.items result }
+    ensures appended { Appended
+        (rewrite_below r.entry path.old.items (paths_in term.now))
+        out.old.items out.new.items result }
     ensures path { OnOk result (path.new.items ≡ path.old.items) }
 {
     match term {
@@ -154,8 +158,11 @@ fn superpose_in_arguments(
     out: &mut Vec<Line>,
 ) -> Result<(), InferError>
     requires ready { IsReady r }
-    requires stand { (k : ℕ) (t : Term) → slice_get terms.now k ≡ Some t → term_under (path.old.items ++ k ∷ []) r.atom.now ≡ Some t }
-    ensures appended { Appended (flat_map (rewrite_argument r.entry path.old.items) (enumerate_from 0 terms.now)) out.old.items out.new.items result }
+    requires stand { (k : ℕ) (t : Term) → slice_get terms.now k ≡ Some t
+        → term_under (path.old.items ++ k ∷ []) r.atom.now ≡ Some t }
+    ensures appended { Appended
+        (flat_map (rewrite_argument r.entry path.old.items) (enumerate_from 0 terms.now))
+        out.old.items out.new.items result }
     ensures path { OnOk result (path.new.items ≡ path.old.items) }
 {
     if terms.len() > 4_294_967_295 {
@@ -182,7 +189,9 @@ fn superpose_in_argument(
 ) -> Result<(), InferError>
     requires ready { IsReady r }
     requires stands { term_under (path.old.items ++ place ∷ []) r.atom.now ≡ Some term.now }
-    ensures appended { Appended (rewrite_argument r.entry path.old.items (place, term.now)) out.old.items out.new.items result }
+    ensures appended { Appended
+        (rewrite_argument r.entry path.old.items (place, term.now))
+        out.old.items out.new.items result }
     ensures path { OnOk result (path.new.items ≡ path.old.items) }
 {
     go_into(path, place)?;
@@ -241,7 +250,9 @@ fn superpose_in_sides(
 ) -> Result<(), InferError>
     requires ready { IsReady r }
     requires sides { r.atom.now ≡ Equal left.now right.now }
-    ensures { Appended (rewrite_argument r.entry [] (0, left.now) ++ rewrite_argument r.entry [] (1, right.now)) out.old.items out.new.items result }
+    ensures { Appended
+        (rewrite_argument r.entry [] (0, left.now) ++ rewrite_argument r.entry [] (1, right.now))
+        out.old.items out.new.items result }
 {
     if let Err(error) = superpose_in_left_side(alloc, r, left, right, out) {
         return Err(error);
@@ -252,7 +263,10 @@ fn superpose_in_sides(
 /// Superposes at all subterms of the atom that are no variables.
 fn superpose_in_atom(alloc: Global, r: Rewriting, out: &mut Vec<Line>) -> Result<(), InferError>
     requires { IsReady r }
-    ensures { Appended (superpose_in r.entry.pair.p.now r.entry.pair.q.now (reading_of r.entry.equation) r.entry.part (r.entry.place, r.entry.atom.now)) out.old.items out.new.items result }
+    ensures { Appended
+        (superpose_in r.entry.pair.p.now r.entry.pair.q.now (reading_of r.entry.equation) r.entry.part
+        (r.entry.place, r.entry.atom.now))
+        out.old.items out.new.items result }
 {
     match r.atom {
         Atom::Holds(_, args) => {
@@ -277,7 +291,9 @@ fn superpose_in_atoms(
     requires counted { IsCounted pair }
     requires left_below { HasVariablesBelow pair.both equation.left_side.now }
     requires atoms_below { AreAtomsBelow pair.both atoms.now }
-    ensures { Appended (flat_map (superpose_in pair.entry.p.now pair.entry.q.now (reading_of equation.entry) part) atoms.now) out.old.items out.new.items result }
+    ensures { Appended
+        (flat_map (superpose_in pair.entry.p.now pair.entry.q.now (reading_of equation.entry) part) atoms.now)
+        out.old.items out.new.items result }
 {
     for k in 0..atoms.len() {
         let (place, atom) = &atoms[k];
@@ -309,7 +325,9 @@ fn superpose_in_both(
     requires left_below { HasVariablesBelow pair.both equation.left_side.now }
     requires antecedent_below { AreAtomsBelow pair.both antecedent.now }
     requires succedent_below { AreAtomsBelow pair.both succedent.now }
-    ensures { Appended (superpose_in_parts pair.entry.p.now pair.entry.q.now antecedent.now succedent.now (reading_of equation.entry)) out.old.items out.new.items result }
+    ensures { Appended
+        (superpose_in_parts pair.entry.p.now pair.entry.q.now antecedent.now succedent.now (reading_of equation.entry))
+        out.old.items out.new.items result }
 {
     if is_always_below(equation.left_side, equation.right_side) {
         return Ok(());
@@ -340,7 +358,10 @@ fn superpose_all(
     requires equations_below { AreLeftSidesBelow pair.both equations.now }
     requires antecedent_below { AreAtomsBelow pair.both antecedent.now }
     requires succedent_below { AreAtomsBelow pair.both succedent.now }
-    ensures { Appended (flat_map (λ e. superpose_in_parts pair.entry.p.now pair.entry.q.now antecedent.now succedent.now (reading_of e)) equations.now) out.old.items out.new.items result }
+    ensures { Appended
+        (flat_map (λ e. superpose_in_parts pair.entry.p.now pair.entry.q.now antecedent.now succedent.now (reading_of
+        e)) equations.now)
+        out.old.items out.new.items result }
 {
     for k in 0..equations.len() {
         if let Err(error) = superpose_in_both(
@@ -357,7 +378,8 @@ fn superpose_all(
     Ok(())
 }
 
-/// Appends what each eligible equation of the succedent of p, read in both directions, gives at each subterm of the eligible
+/// Appends what each eligible equation of the succedent of p, read in both directions, gives at each subterm of
+/// the eligible
 /// atoms of q that is no variable, in the order of a walk.
 ///
 /// # Errors

@@ -1,6 +1,6 @@
 use Rattle.std.proofs.Common.{◌≡◌, ◌∙◌, Some, option_map, sym, ap, subst}
 use Rattle.spl_truth.specs.Unifiers.{unifier}
-use Rattle.calculus.proofs.Lifting.{length-unifier}
+use Rattle.calculus.specs.LiftingLaws.{length-unifier}
 use Rattle.superposition.specs.Appending.{Appended}
 use Rattle.superposition.specs.Readings.{reading_of}
 use Rattle.superposition.proofs.Resolving.{parts_fit}
