@@ -1,7 +1,8 @@
 #!/usr/bin/env python3
-"""Prints how many nanoseconds a unification, a match and a comparison of terms take, for terms of 10 to 1,000 symbols.
+"""Prints how many nanoseconds a unification, a match and a comparison of terms of 10 to 1,000 symbols take, and the
+inferences of a pair of clauses.
 
-It belongs to no gate. Build the programs first: `rt run` in crates/unify_bench and in crates/order_bench.
+It belongs to no gate. Build the programs first, by `rt run` in the crates whose names end in `_bench`.
 """
 import subprocess
 import sys
@@ -10,7 +11,7 @@ from timing import built_program
 
 
 def main():
-    for crate in ("unify_bench", "order_bench"):
+    for crate in ("unify_bench", "order_bench", "superposition_bench"):
         program = built_program(crate)
         if program is None:
             sys.exit(f"build the program first: rt run in crates/{crate}")
