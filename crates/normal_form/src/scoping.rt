@@ -92,7 +92,11 @@ fn arguments_among(
 }
 
 /// The universal variables of the blocks, the outermost first, that stand in the part.
-fn skolem_arguments(alloc: Global, blocks: &[Block], part: &Formula) -> Result<Items<u32>, AllocError>
+fn skolem_arguments(
+    alloc: Global,
+    blocks: &[Block],
+    part: &Formula,
+) -> Result<Items<u32>, AllocError>
     ensures { IfOk result (λ found. found ≡ arguments_in blocks.now part.now) }
 {
     let standing = standing(alloc, blocks, part)?;
