@@ -1,11 +1,11 @@
 -- A desk that is taken, and one that catches up.
-use Rattle.std.proofs.Common.{◌≡◌, ◌⊎◌, inl, inr, ℕ, ◌+◌, ◌<◌, ◌≤◌, Bool, true, false, not, ◌&&◌, List, [], ◌∷◌, ◌++◌, length, map, Option, Some, None, refl, sym, ◌∙◌, ap, subst, arith, length-append}
+use Rattle.std.proofs.Common.{◌≡◌, ℕ, ◌≤◌, Bool, true, false, not, ◌&&◌, List, ◌++◌, length, Option, Some, None, refl, sym, ◌∙◌, ap, subst, arith, length-append}
 use Rattle.std.specs.Prelude.{option_map}
 use Rattle.std.specs.List.{slice_get}
-use Rattle.std.proofs.lemmas.Bool.{and_parts, and_from, cases_Bool}
+use Rattle.std.proofs.lemmas.Bool.{and_parts, and_from}
 use Rattle.std.proofs.lemmas.Option.{slice_get-map}
 use Rattle.case_journal.specs.declared.event.Entry.{Entry}
-use Rattle.case_journal.specs.Journal.{Setting, ledger, nodes, steps}
+use Rattle.case_journal.specs.Journal.{Setting, ledger, steps}
 use Rattle.case_journal.specs.Facts.{listed, worked, split, kept, Holds}
 use Rattle.case_journal.specs.Picking.{is_passive}
 use Rattle.case_journal.specs.Legal.{IsLegalJournal}
@@ -17,7 +17,7 @@ use Rattle.case_queue.specs.KeepingLaws.{first_keeps}
 use Rattle.journal_laws.specs.Frame.{KeepsLeaf}
 use Rattle.case_view.specs.declared.kept.Kept.{Kept}
 use Rattle.case_view.specs.declared.kept.Case.{Case}
-use Rattle.case_view.specs.Views.{HasClauses, StandsFor}
+use Rattle.case_view.specs.Views.{HasClauses}
 use Rattle.case_turns.specs.declared.desk.Desk.{Desk}
 use Rattle.case_turns.specs.Desks.{AreNumbersOf, IsDesk, IsDeskNow}
 
@@ -26,17 +26,8 @@ use Rattle.case_turns.specs.Desks.{AreNumbersOf, IsDesk, IsDeskNow}
 pub same_leaf : (s : Setting) (past : List Entry) (v w m n : ℕ) → v ≡ w → Holds s past v n → Holds s past w m → n ≡ m
 same_leaf s past v w m n e a b = let q : Some n ≡ Some m = sym (subst (λ x. Holds s past x n) e a).claims ∙ b.claims in cc
 
-pub own_desk : (s : Setting) (past : List Entry) (w m : ℕ) (desk : Desk) → IsDesk s past w m desk → IsDesk s past desk.view.worker desk.view.node desk
-own_desk s past w m desk d = subst (λ n. IsDesk s past desk.view.worker n desk) (sym d.was.node) (subst (λ v. IsDesk s past v m desk) (sym d.was.worker) d)
-
-pub own_leaf : (s : Setting) (past : List Entry) (w m : ℕ) (desk : Desk) → IsDesk s past w m desk → Holds s past w m → Holds s past desk.view.worker desk.view.node
-own_leaf s past w m desk d h = subst (λ n. Holds s past desk.view.worker n) (sym d.was.node) (subst (λ v. Holds s past v m) (sym d.was.worker) h)
-
 pub desk_caught : (s : Setting) (past : List Entry) (w m : ℕ) (old new : Desk) → IsDesk s past w m old → IsDeskNow s past old.view.worker old.view.node new → IsDeskNow s past w m new
 desk_caught s past w m old new d h = subst (λ n. IsDeskNow s past w n new) d.was.node (subst (λ v. IsDeskNow s past v old.view.node new) d.was.worker h)
-
-pub desk_here : (s : Setting) (past : List Entry) (w m : ℕ) (desk : Desk) → IsDeskNow s past w m desk → IsDesk s past w m desk
-desk_here s past w m desk h = record { start = past; later = []; more = refl; was = h }
 
 pub desk_after : (s : Setting) (old new added : List Entry) (w m : ℕ) (desk : Desk) → new ≡ added ++ old → IsDeskNow s old w m desk → IsDesk s new w m desk
 desk_after s old new added w m desk is h = record { start = old; later = added; more = is; was = h }

@@ -1,36 +1,23 @@
 -- The events of a worker that is alone, and what holds after each.
-use Rattle.std.proofs.Common.{◌≡◌, ◌⊎◌, inl, inr, ℕ, zero, suc, ◌+◌, ◌<◌, ◌≤◌, Bool, true, false, not, ◌&&◌, ◌==◌, if◌then◌else◌, eqb, eq-eqb, List, [], ◌∷◌, ◌++◌, Option, Some, None, refl, sym, ◌∙◌, ap, subst, arith}
+use Rattle.std.proofs.Common.{◌≡◌, ℕ, ◌<◌, ◌≤◌, Bool, true, false, not, ◌&&◌, ◌==◌, if◌then◌else◌, eqb, eq-eqb, List, [], ◌∷◌, ◌++◌, Option, Some, None, refl, sym, ◌∙◌, ap, subst, arith}
 use Rattle.std.specs.Prelude.{IsSome, is_some}
 use Rattle.std.proofs.lemmas.Bool.{cond-true, or_from}
 use Rattle.std.proofs.lemmas.List.{append-nil}
 use Rattle.spl_terms.specs.Lists.{numbered}
-use Rattle.dep_sets.specs.declared.deps.Assumption.{Assumption}
-use Rattle.proof_steps.specs.declared.step.Line.{Line}
-use Rattle.clause_parts.specs.Parts.{Parted}
 use Rattle.case_journal.specs.declared.event.Entry.{Entry}
 use Rattle.case_journal.specs.declared.event.Event.{Event}
-use Rattle.case_journal.specs.declared.event.Event.TheVariants.{Claim, Choose, Activate, Saturated, Spent, Stop}
+use Rattle.case_journal.specs.declared.event.Event.TheVariants.{Claim, Choose, Spent, Stop}
 use Rattle.case_journal.specs.declared.event.End.{End}
-use Rattle.case_journal.specs.declared.event.End.TheVariants.{Proved, Memory}
 use Rattle.split_tree.specs.State.{State}
-use Rattle.case_journal.specs.Journal.{Setting, ledger, nodes, rounds, splits}
+use Rattle.case_journal.specs.Journal.{Setting, ledger, nodes, rounds}
 use Rattle.case_journal.specs.Paths.{is_leaf}
-use Rattle.case_journal.specs.Facts.{chosen, Holds, IsDead, IsLive, cost_of, has_stopped, is_stop}
+use Rattle.case_journal.specs.Facts.{chosen, Holds, IsLive, cost_of, has_stopped, is_stop}
 use Rattle.case_journal.specs.Picking.{pick_at}
-use Rattle.case_journal.specs.Ending.{first_end, or_else, end_by, reason, has_empty}
+use Rattle.case_journal.specs.Ending.{first_end, or_else, end_by, reason}
 use Rattle.case_journal.specs.Legal.{IsLegal, IsLegalJournal, IsClaimable, IsSettled}
 use Rattle.case_journal.specs.LeafLaws.{claimer_within}
-use Rattle.case_journal.specs.PlaceLaws.{claimed_within}
 use Rattle.case_journal.specs.BoundLaws.{rounds_bound}
-use Rattle.case_view.specs.declared.kept.Case.{Case}
-use Rattle.case_view.specs.declared.kept.Kept.{Kept}
-use Rattle.case_view.specs.Views.{StandsFor, HasClauses}
-use Rattle.case_rounds.specs.declared.round.Finish.{Finish}
-use Rattle.case_rounds.specs.declared.round.Finish.TheVariants as finishes
-use Rattle.case_rounds.specs.Rounds.{IsFinishOf}
-use Rattle.case_turns.specs.declared.appending.Appended.{Appended}
-use Rattle.case_turns.specs.declared.appending.Appended.TheVariants as outcomes
-use Rattle.case_turns.specs.Turns.{Continues, IsLeft, IsFree, IsEndedBy, HasNoSplitLeft}
+use Rattle.case_turns.specs.Turns.{Continues, IsFree}
 use Rattle.case_turns.specs.Working.{IsBetween, IsBusy}
 use Rattle.case_turns.proofs.Turns.{StaysDead}
 
@@ -51,22 +38,6 @@ some_none o x a b = let e : Some x ≡ None = sym a ∙ b in absurd (cc)
 pub not_some : {A : Type 0} (o : Option A) → is_some o ≡ false → o ≡ None
 not_some None h = refl
 not_some (Some x) h = absurd (cc)
-
-pub ended_between : (t : State) (w : ℕ) (end : End) → first_end t.past ≡ Some end → IsBetween t w
-ended_between t w end e = record {
-  idle = λ none. absurd (some_none (first_end t.past) end e none);
-  settled = λ none. absurd (some_none (first_end t.past) end e none);
-}
-
-pub stopped_between : (t : State) (w : ℕ) → IsEndedBy t → IsBetween t w
-stopped_between t w h = elim h.is [ inl e ↦ ended_between t w _ e | inr e ↦ ended_between t w _ e.1 ]
-
-pub left_between : (t : State) (w : ℕ) → IsLeft t w → IsBetween t w
-left_between t w h = record { idle = λ none. h.idle; settled = λ none. h.settled }
-
--- the event ends the journal
-pub end_after : (past : List Entry) (e : Entry) (end : End) → first_end past ≡ None → end_by e.event ≡ Some end → first_end (e ∷ past) ≡ Some end
-end_after past e end none is = ap (λ o. or_else o (end_by e.event)) none ∙ is
 
 -- ---- room changes nothing
 
@@ -115,11 +86,6 @@ settled_still stays s past by _ k settled = absurd k
 abbrev pub choice : ℕ → ℕ → ℕ → Entry
 choice w m clause = record { by = w; event = Choose m clause None }
 
-pub legal_choose : (t : State) (w m clause : ℕ) → IsLegalJournal t.setting t.past → IsFree t w m → pick_at t.setting t.past m ≡ Some clause → rounds t.past < t.setting.limits.rounds → IsLegal t.setting t.past w (Choose m clause None)
-legal_choose t w m clause legal h picked few =
-    let r = claimer_within t.setting t.past legal w m h.holds.claims in
-    record { some = r.0; worker = r.1; unended = λ e. h.unended; asked = record { holds = h.holds; free = h.free; settled = h.settled; few = few; picked = picked; unselected = refl } }
-
 some_is : {A : Type 0} (o : Option A) (x : A) → o ≡ Some x → IsSome o
 some_is o x e = subst IsSome (sym e) refl
 
@@ -148,9 +114,6 @@ none_unless : {A : Type 0} (o : Option A) → ((x : A) → o ≡ Some x → ⊥)
 none_unless None h = refl
 none_unless (Some x) h = absurd (h x refl)
 
-pub legal_claim : (t : State) (m : ℕ) → t.setting.workers ≡ 1 → first_end t.past ≡ None → IsBetween t 1 → IsClaimable t.setting t.past m → IsLegal t.setting t.past 1 (Claim m)
-legal_claim t m one unended h claimable = record { some = omega arith; worker = omega (arith, one); unended = λ e. unended; asked = record { claimable = claimable; idle = h.idle unended; settled = h.settled unended } }
-
 pub claim_free : StaysDead → AreHeld → (old new : State) (m : ℕ) → IsLegalJournal old.setting old.past → new.setting ≡ old.setting → new.past ≡ record { by = 1; event = Claim m } ∷ old.past → first_end old.past ≡ None → IsBetween old 1 → IsClaimable old.setting old.past m → IsFree new 1 m
 claim_free stays held old new m legal e f none h c =
     let s = old.setting in
@@ -168,11 +131,6 @@ claim_free stays held old new m legal e f none h c =
     }
 
 -- ---- ending
-
-pub legal_saturated : (t : State) (w m : ℕ) → IsLegalJournal t.setting t.past → IsFree t w m → pick_at t.setting t.past m ≡ None → IsLegal t.setting t.past w (Saturated m)
-legal_saturated t w m legal h none =
-    let r = claimer_within t.setting t.past legal w m h.holds.claims in
-    record { some = r.0; worker = r.1; unended = λ e. h.unended; asked = record { holds = h.holds; free = h.free; settled = h.settled; none = none } }
 
 same_held : (s : Setting) (past : List Entry) (v w m n : ℕ) → v ≡ w → Holds s past v n → Holds s past w m → n ≡ m
 same_held s past v w m n e a b = let q : Some n ≡ Some m = sym (subst (λ x. Holds s past x n) e a).claims ∙ b.claims in cc
@@ -198,25 +156,6 @@ legal_spent held t m clause legal one h picked spent = record {
   };
 }
 
--- ---- a round
-
-pub given_some : (s : Setting) (past : List Entry) (v : Case) (m : ℕ) → HasClauses s past v → v.node ≡ m → IsSome (chosen past m) → IsSome v.given
-given_some s past v m has at busy = go v.given refl
-  where
-    none_some : (o : Option ℕ) → o ≡ None → IsSome o → ⊥
-    none_some None e h = absurd (cc)
-    none_some (Some x) e h = absurd (cc)
-
-    go : (o : Option Kept) → v.given ≡ o → IsSome o
-    go None e = absurd (none_some (chosen past m) (ap (chosen past) (sym at) ∙ has.none e) busy)
-    go (Some k) e = refl
-
--- what was computed over the journal as it is splits only where a split is left
-pub never_again : (t : State) (v : Case) (lines : List Line) (most : ℕ) (finish : Finish) → most ≡ t.setting.limits.splits → v.splits ≡ splits t.past → IsFinishOf most v lines finish → HasNoSplitLeft t finish → ⊥
-never_again t v lines most finish limit same is h =
-    let split = subst (IsFinishOf most v lines) h.is is in
-    absurd (omega (arith, split.free, h.spent, limit, same))
-
 -- ---- stopping
 
 none_first : (o r : Option End) → or_else o r ≡ None → (o ≡ None) × (r ≡ None)
@@ -241,17 +180,3 @@ not_stopped (x ∷ past) w e =
 
 pub stop_cost : (past : List Entry) (w spare : ℕ) → first_end past ≡ None → cost_of past w Stop ≤ spare
 stop_cost past w spare e = let free : cost_of past w Stop ≡ 0 = ap (λ b. if not b then 0 else 1) (not_stopped past w e) in omega (arith, free)
-
-pub legal_stop : (s : Setting) (past : List Entry) → 1 ≤ s.workers → IsLegal s past 1 Stop
-legal_stop s past some = record { some = omega arith; worker = some; unended = λ e. absurd (cc); asked = tt }
-
--- where an event has ended the journal, proving has ended
-pub end_reason : (s : Setting) (past : List Entry) (end : End) → first_end past ≡ Some end → IsSome (reason s past)
-end_reason s past end e = go (has_empty s.input)
-  where
-    go : (b : Bool) → IsSome (if b then Some Proved else first_end past)
-    go true = refl
-    go false = some_is (first_end past) end e
-
-pub stopped_reason : (s : Setting) (past : List Entry) (by : ℕ) → first_end past ≡ None → IsSome (reason s (record { by = by; event = Stop } ∷ past))
-stopped_reason s past by none = end_reason s (record { by = by; event = Stop } ∷ past) Memory (end_after past (record { by = by; event = Stop }) Memory none refl)

@@ -36,9 +36,6 @@ line_at lines before rest l e =
     let z : length before ≡ length before + 0 = omega arith in
     ap (λ xs. slice_get xs (length before)) e ∙ (ap (slice_get (before ++ l ∷ rest)) z ∙ get_right before (l ∷ rest) 0)
 
-pub leaf_there : (s : Setting) (start past : List Entry) (w m : ℕ) (lines : List Line) (k : ℕ) → IsLegalJournal s past → IsUnderWay s start past w m lines k → m < nodes past
-leaf_there s start past w m lines k legal h = claimed_within s past legal w m h.still.holds.claims
-
 pub published_more : (s : Setting) (start old new : List Entry) (w m : ℕ) (lines before rest : List Line) (l : Line) → new ≡ publication w (owner old l.stated.deps m) l ∷ old
     → IsUnderWay s start (publication w (owner old l.stated.deps m) l ∷ old) w m lines (suc (length before)) → IsUnderWay s start new w m lines (length (before ++ l ∷ []))
 published_more s start old new w m lines before rest l is h =
@@ -198,9 +195,6 @@ none_left [] e = refl
 none_left (x ∷ xs) e = absurd (omega (arith, e))
 
 -- ---- more events
-
-pub continues_self : (past : List Entry) → Continues past past
-continues_self past = record { added = []; is = refl }
 
 pub continues_one : (old new : List Entry) (e : Entry) → new ≡ e ∷ old → Continues old new
 continues_one old new e is = record { added = e ∷ []; is = is }

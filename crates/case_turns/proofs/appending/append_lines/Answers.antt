@@ -9,7 +9,7 @@ use Rattle.case_journal.specs.Facts.{Holds}
 use Rattle.case_journal.specs.Ending.{first_end}
 use Rattle.journal_laws.specs.Batches.{CanGoOn, IsUnderWay, publication}
 use Rattle.case_view.specs.Views.{IsIn}
-use Rattle.case_turns.proofs.Turns.{line_at, published_more, published_told, none_left, in_either, in_one, continues_more, continues_one, continues_self}
+use Rattle.case_turns.proofs.Turns.{line_at, published_more, published_told, none_left, in_either, in_one, continues_more, continues_one}
 use Rattle.case_turns.proofs.appending.append_lines.Goals as goal
 
 pub append_line-requires-clause-holds : goal.append_line-requires-clause-holds

@@ -1,5 +1,5 @@
-use Rattle.std.proofs.Common.{◌≡◌, ◌∙◌, None, ap, sym}
-use Rattle.case_journal.specs.Ending.{first_end, reason}
+use Rattle.std.proofs.Common.{◌≡◌, None}
+use Rattle.case_journal.specs.Ending.{first_end}
 use Rattle.case_turns.proofs.Rounds.{claim_free, between_moved, moved_open}
 use Rattle.case_turns.proofs.cases.work_case.Goals as goal
 

@@ -1,5 +1,5 @@
-use Rattle.std.proofs.Common.{◌≡◌, ◌<◌, ◌≤◌, ◌∙◌, sym, ap, subst, arith}
-use Rattle.case_journal.specs.Journal.{nodes, steps}
+use Rattle.std.proofs.Common.{◌<◌, ◌∙◌, sym, subst, arith}
+use Rattle.case_journal.specs.Journal.{nodes}
 use Rattle.case_journal.specs.Legal.{IsLegalJournal}
 use Rattle.case_journal.specs.Facts.{Holds}
 use Rattle.case_journal.specs.PlaceLaws.{claimed_within}
