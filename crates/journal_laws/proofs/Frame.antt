@@ -191,7 +191,7 @@ others_keep s past e w m legal h other live =
     (cond-false (eqb e.by w) (claimed_by e.event (claimed past w)) (claimed past w) (ne_eqb e.by w other)) live
     (λ c at. absurd (none_of c (subst (λ cs. Contains cs c) none at))))
 
-nodes_grow : (later past : List Entry) → nodes past ≤ nodes (later ++ past)
+pub nodes_grow : (later past : List Entry) → nodes past ≤ nodes (later ++ past)
 nodes_grow [] past = omega arith
 nodes_grow (e ∷ later) past = omega (arith, nodes_grow later past)
 
@@ -202,7 +202,7 @@ others_go_on s past (e ∷ later) w m legal h none live there =
     let f = others_go_on s past later w m legal.1 h none.1 before there in
     still_more s past (later ++ past) (e ∷ later ++ past) w m [] [] f (others_keep s (later ++ past) e w m legal f.holds none.0 live)
 
-legal_tail : (s : Setting) (later past : List Entry) → IsLegalJournal s (later ++ past) → IsLegalJournal s past
+pub legal_tail : (s : Setting) (later past : List Entry) → IsLegalJournal s (later ++ past) → IsLegalJournal s past
 legal_tail s [] past legal = legal
 legal_tail s (e ∷ later) past legal = legal_tail s later past legal.1
 
@@ -213,7 +213,7 @@ others_leave_the_leaf s past later w m legal h none live = others_go_on s past l
 -- ---- the leaf alone, whatever its worker does there but to split it
 
 pub leaf_still : (s : Setting) (old new : List Entry) (w m : ℕ) (own : List Clause) → StillHolds s old new w m own → KeepsLeaf s old new w m
-leaf_still s old new w m own h = record { holds = h.holds; count = h.count; paths = h.paths; owners = h.owners; splits = h.splits; lists = h.lists; only = h.only; works = λ n on. h.worked n ∙ on; lines = h.lines; ledger = h.ledger }
+leaf_still s old new w m own h = record { holds = h.holds; count = h.count; paths = h.paths; owners = h.owners; splits = h.splits; parts = λ n on. h.split n ∙ on; lists = h.lists; only = h.only; works = λ n on. h.worked n ∙ on; lines = h.lines; ledger = h.ledger }
 
 pub leaf_keeps : (s : Setting) (past : List Entry) (e : Entry) (w m : ℕ) → IsLegalJournal s past → IsAsked s past e.by e.event → Holds s past w m → Holds s (e ∷ past) w m → KeepsLeaf s past (e ∷ past) w m
 leaf_keeps s past e w m legal asked h now =
@@ -225,6 +225,7 @@ leaf_keeps s past e w m legal asked h now =
       paths = λ n. same_path past e m n low;
       owners = λ deps. owner_same past e deps m low;
       splits = omega arith;
+      parts = λ n on. or_right (splits_clause e.event (on_path past (stem e.event (nodes past) m)) n) (split past (stem e.event (nodes past) m) n) (ap (λ x. split past x n) at ∙ on);
       lists = λ n on. listed_after s past e m n low on;
       only = λ n few on. old_listed s past e asked m n low few on;
       works = λ n on. or_right (activates e.event (chosen past) (on_path past (stem e.event (nodes past) m)) n) (worked past (stem e.event (nodes past) m) n) (ap (λ x. worked past x n) at ∙ on);
@@ -239,6 +240,7 @@ leaf_more s a b c w m f g = record {
   paths = λ n. g.paths n ∙ f.paths n;
   owners = λ deps. g.owners deps ∙ f.owners deps;
   splits = omega (arith, f.splits, g.splits);
+  parts = λ n on. g.parts n (f.parts n on);
   lists = λ n on. g.lists n (f.lists n on);
   only = λ n few on. f.only n few (g.only n (omega (arith, few, ap length f.ledger, length-append (ledger s a) f.lines)) on);
   works = λ n on. g.works n (f.works n on);

@@ -1,5 +1,5 @@
 -- In each legal journal, since the clause that is chosen at a held leaf was chosen.
-use Rattle.std.proofs.Common.{◌≡◌, ◌⊎◌, inl, inr, ℕ, ◌<◌, Bool, true, false, not, cond, eqb, List, [], ◌∷◌, Option, Some, None, refl, sym, ◌∙◌, ap, subst, eq-eqb}
+use Rattle.std.proofs.Common.{◌≡◌, ◌⊎◌, inl, inr, ℕ, ◌<◌, Bool, true, false, not, cond, eqb, List, [], ◌∷◌, ◌++◌, Option, Some, None, refl, sym, ◌∙◌, ap, subst, eq-eqb, arith}
 use Rattle.std.specs.Prelude.{Contains}
 use Rattle.std.proofs.lemmas.Bool.{and_parts, eqb-true, cases_Bool, cond-true, cond-false, false≢true}
 use Rattle.spl_terms.specs.declared.clause.Clause.{Clause}
@@ -13,11 +13,11 @@ use Rattle.case_journal.specs.Facts.{chosen, chosen_by, chooses_at, claimed, cla
 use Rattle.case_journal.specs.Legal.{IsAsked, IsLegalJournal, IsListed, IsPublishable}
 use Rattle.case_journal.specs.PlaceLaws.{claimed_within}
 use Rattle.case_journal.specs.DependenceLaws.{chosen_listed}
-use Rattle.journal_laws.specs.Frame.{StillHolds, IsSinceChoice}
+use Rattle.journal_laws.specs.Frame.{StillHolds, IsSinceChoice, KeepsLeaf}
 use Rattle.journal_laws.specs.Batches.{publication}
 use Rattle.journal_laws.proofs.Holders.{live_before, one_holder}
 use Rattle.case_journal.specs.DeathLaws.{owner_on}
-use Rattle.journal_laws.proofs.Frame.{IsQuietAt, own_by, quiet_keeps, others_keep, none_of, one_of}
+use Rattle.journal_laws.proofs.Frame.{IsQuietAt, own_by, quiet_keeps, others_keep, none_of, one_of, still_self, nodes_grow, legal_tail, leaf_still, leaf_keeps, leaf_more}
 use Rattle.journal_laws.proofs.Choice.{choice_begins, since_still}
 use Rattle.journal_laws.proofs.Publishing.{listed_now}
 
@@ -50,7 +50,7 @@ chosen_how s past by m c (Activate node) o p h = elim (cases_Bool (eqb node m)) 
 ]
 chosen_how s past by m c _ o p h = inr h
 
-chosen_held : (s : Setting) (past : List Entry) → IsLegalJournal s past → (m c : ℕ) → chosen past m ≡ Some c → is_leaf past m ≡ true → IsLive s past m → (v : ℕ) × Holds s past v m
+pub chosen_held : (s : Setting) (past : List Entry) → IsLegalJournal s past → (m c : ℕ) → chosen past m ≡ Some c → is_leaf past m ≡ true → IsLive s past m → (v : ℕ) × Holds s past v m
 chosen_held s [] legal m c is leaf live = cc
 chosen_held s (e ∷ past) legal m c is leaf live = elim (chosen_how s past e.by m c e.event (chosen past m) legal.0.asked is) [
   | inl h ↦ (e.by, holds_after s past e e.by m legal.0.asked h leaf live)
@@ -159,3 +159,16 @@ since_choice s (e ∷ past) legal w m c h is = elim (cases_Bool (chooses_at e.ev
       let k = subst (λ v. Holds s past v m) same r.1 in
       step_since s past e.by w m c e.event legal k h apart is (since_choice s past legal.1 w m c k before)
 ]
+
+-- ---- whatever is appended while the leaf is held
+
+pub leaf_whole : (s : Setting) (past later : List Entry) (w m : ℕ) → IsLegalJournal s (later ++ past) → Holds s past w m → m < nodes past → is_leaf (later ++ past) m ≡ true → IsLive s (later ++ past) m → KeepsLeaf s past (later ++ past) w m
+leaf_whole s past [] w m legal h there leaf live = leaf_still s past past w m [] (still_self s past w m h)
+leaf_whole s past (e ∷ later) w m legal h there leaf live =
+    let before = live_before s (later ++ past) e m (omega (arith, there, nodes_grow later past)) live in
+    let f = leaf_whole s past later w m legal.1 h there (and_parts (not (splits_node e.event m)) (is_leaf (later ++ past) m) leaf).1 before in
+    let now = holds_after s (later ++ past) e w m legal.0.asked f.holds leaf live in
+    leaf_more s past (later ++ past) (e ∷ later ++ past) w m f (leaf_keeps s (later ++ past) e w m legal.1 legal.0.asked f.holds now)
+
+pub leaf_kept : (s : Setting) (past later : List Entry) (w m : ℕ) → IsLegalJournal s (later ++ past) → Holds s past w m → Holds s (later ++ past) w m → KeepsLeaf s past (later ++ past) w m
+leaf_kept s past later w m legal h now = leaf_whole s past later w m legal h (claimed_within s past (legal_tail s later past legal) w m h.claims) now.leaf now.live

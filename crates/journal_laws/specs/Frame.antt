@@ -40,13 +40,14 @@ pub record IsSinceChoice (s : Setting) (past : List Entry) (w m : ℕ) : Type 0 
   pub before : (c : Clause) → IsListed s (before_choice past m) m c → IsListed s past m c
   pub since : (c : Clause) → Contains (published_since past w m) c → IsListed s past m c
 
--- the same leaf: worker w still holds m, the paths are what they were, and what was listed there is; clauses may have been chosen and worked off
+-- the same leaf: worker w still holds m, the paths are what they were, and what was listed, worked off or split there is; clauses may have been chosen and worked off
 pub record KeepsLeaf (s : Setting) (old new : List Entry) (w m : ℕ) : Type 0 where
   pub holds : Holds s new w m
   pub count : nodes old ≤ nodes new
   pub paths : (n : ℕ) → on_path new m n ≡ on_path old m n
   pub owners : (deps : List Assumption) → owner new deps m ≡ owner old deps m
   pub splits : splits old ≤ splits new
+  pub parts : (n : ℕ) → split old m n ≡ true → split new m n ≡ true
   pub lists : (n : ℕ) → listed s old m n ≡ true → listed s new m n ≡ true
   pub only : (n : ℕ) → n ≤ steps s old → listed s new m n ≡ true → listed s old m n ≡ true
   pub works : (n : ℕ) → worked old m n ≡ true → worked new m n ≡ true

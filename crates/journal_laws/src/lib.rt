@@ -5,7 +5,7 @@
 //! `specs/PathEvents.antt` which events are at the nodes of a path, and `specs/Shifts.antt` how steps move behind others.
 #![tactic(auto)]
 
-ghost use Rattle.std.specs.Prelude.{◌≡◌, ℕ, ◌+◌, ◌<◌, ◌≤◌, [], ◌∷◌, ◌++◌, List, Option, false, length, take, Some, None, slice_get};
+ghost use Rattle.std.specs.Prelude.{◌≡◌, ℕ, suc, ◌+◌, ◌<◌, ◌≤◌, [], ◌∷◌, ◌++◌, List, Option, true, false, length, take, Some, None, slice_get};
 ghost use Rattle.spl_terms.specs.Clauses.{is_empty, renumbered};
 ghost use Rattle.spl_terms.specs.Lists.{numbered};
 ghost use Rattle.spl_terms.specs.declared.clause.Clause.{Clause};
@@ -13,12 +13,12 @@ ghost use Rattle.proof_steps.specs.declared.step.Line.{Line};
 ghost use Rattle.case_journal.specs.declared.event.Entry.{Entry};
 ghost use Rattle.case_journal.specs.declared.event.Event.TheVariants.{Choose, Activate, Big};
 ghost use Rattle.case_journal.specs.Journal.{Setting, counted, nodes};
-ghost use Rattle.case_journal.specs.Facts.{chosen, listed, worked, Holds, IsLive};
+ghost use Rattle.case_journal.specs.Facts.{chosen, listed, worked, Holds, IsDead, IsLive};
 ghost use Rattle.case_journal.specs.Ending.{first_end};
-ghost use Rattle.case_journal.specs.Legal.{IsLegal, IsLegalJournal, IsLegalBig, IsSettled};
+ghost use Rattle.case_journal.specs.Legal.{IsLegal, IsLegalJournal, IsLegalBig, IsListed, IsSettled};
 ghost use Rattle.journal_laws.specs.Frame.{NoneBy, StillHolds, IsSinceChoice, KeepsLeaf};
 ghost use Rattle.proof_steps.specs.Checked.{IsConclusion, AreConclusions, stated};
-ghost use Rattle.case_journal.specs.Paths.{on_path};
+ghost use Rattle.case_journal.specs.Paths.{on_path, owner, is_leaf};
 ghost use Rattle.journal_laws.specs.PathEvents.{events_on, SamePath};
 ghost use Rattle.journal_laws.specs.Shifts.{shifted, shifted_line, is_split_rule};
 ghost use Rattle.journal_laws.specs.Batches.{IsBatch, IsUnderWay, publication, newest_first, with_lines, CanGoOn, IsWorkedOff};
@@ -56,6 +56,20 @@ pub fn a_held_leaf_is_kept()
         → KeepsLeaf s a b w m → KeepsLeaf s b c w m → KeepsLeaf s a c w m }
     ensures still { (s : Setting) (old new : List Entry) (w m : ℕ) (own : List Clause)
         → StillHolds s old new w m own → KeepsLeaf s old new w m }
+    ensures whole { (s : Setting) (past later : List Entry) (w m : ℕ) → IsLegalJournal s (later ++ past)
+        → Holds s past w m → Holds s (later ++ past) w m → KeepsLeaf s past (later ++ past) w m }
+{}
+
+/// A leaf where a clause is chosen is held by some worker, as long as it is live.
+pub fn chosen_leaves_are_held()
+    ensures { (s : Setting) (past : List Entry) → IsLegalJournal s past → (m c : ℕ) → chosen past m ≡ Some c
+        → is_leaf past m ≡ true → IsLive s past m → (w : ℕ) × Holds s past w m }
+{}
+
+/// A dead node stays dead.
+pub fn dead_nodes_stay_dead()
+    ensures { (s : Setting) (past : List Entry) (e : Entry) (m : ℕ) → m < nodes past
+        → IsDead s past m → IsDead s (e ∷ past) m }
 {}
 
 /// Where a clause has just been chosen, nothing was worked off since, and what was listed then still is; this stays while the
@@ -87,6 +101,23 @@ pub fn ready_stays()
     ensures stays { (s : Setting) (start past later : List Entry) (w m : ℕ) (lines : List Line)
         → IsLegalJournal s (later ++ past) → NoneBy w later → IsLive s (later ++ past) m
         → IsUnderWay s start past w m lines 0 → IsUnderWay s start (later ++ past) w m lines 0 }
+{}
+
+/// A batch that is under way goes on line by line: the next one may be published or, where as many counted steps were
+/// published as may be, ends the journal by a Full; and after a publication the rest of the batch is under way. A line that
+/// is published at the node where it belongs is listed at the leaf, and a clause with atoms ends nothing.
+pub fn lines_go_on()
+    ensures next { (s : Setting) (start past : List Entry) (w m : ℕ) (lines : List Line) (k : ℕ) (l : Line)
+        → IsLegalJournal s past → first_end past ≡ None → IsUnderWay s start past w m lines k
+        → slice_get lines k ≡ Some l → CanGoOn s past w m l }
+    ensures more { (s : Setting) (start past : List Entry) (w m : ℕ) (lines : List Line) (k : ℕ) (l : Line)
+        → IsLegalJournal s (publication w (owner past l.stated.deps m) l ∷ past) → IsUnderWay s start past w m lines k
+        → slice_get lines k ≡ Some l → is_empty l.stated.clause ≡ false
+        → IsUnderWay s start (publication w (owner past l.stated.deps m) l ∷ past) w m lines (suc k) }
+    ensures listed { (s : Setting) (past : List Entry) (w m : ℕ) (l : Line) → IsLegalJournal s past → m < nodes past
+        → IsListed s (publication w (owner past l.stated.deps m) l ∷ past) m l.stated.clause }
+    ensures unended { (past : List Entry) (w node : ℕ) (l : Line) → is_empty l.stated.clause ≡ false
+        → first_end past ≡ None → first_end (publication w node l ∷ past) ≡ None }
 {}
 
 /// Once the lines of the round are published, what finishes it may be appended: the activation where all inferences were
