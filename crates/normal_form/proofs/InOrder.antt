@@ -8,7 +8,7 @@ use Rattle.spl_terms.specs.declared.atom.Atom.{Atom}
 use Rattle.spl_terms.specs.declared.atom.Atom.TheVariants.{Holds, Equal}
 use Rattle.spl_terms.specs.declared.clause.Clause.{Clause}
 use Rattle.spl_terms.specs.Terms.{term_variables}
-use Rattle.spl_terms.specs.Clauses.{atom_variables, clause_variables, is_of_sort, noted, firsts, place_below, number_in, at_lists, distinct, replace_in_atom, in_order}
+use Rattle.spl_terms.specs.Clauses.{atom_variables, clause_variables, is_of_sort, noted, firsts, place_in, number_in, at_lists, distinct, replace_in_atom, in_order}
 use Rattle.spl_terms.specs.TermLaws.{Each, term_induction}
 use Rattle.spl_terms.specs.TermLaws.{term_variables-Var, term_variables-App}
 use Rattle.normal_form.specs.Skolem.{is_member}
@@ -200,7 +200,7 @@ fold_has w (v ∷ vs) order h = elim (or_cases (w == v) (is_member w vs) h) [
   | inr k ↦ fold_has w vs (noted order v) k
 ]
 
-placed : (v : ℕ) (xs : List ℕ) → is_member v xs ≡ true → get_or xs (place_below xs v) 0 ≡ v
+placed : (v : ℕ) (xs : List ℕ) → is_member v xs ≡ true → get_or xs (place_in xs v) 0 ≡ v
 placed v [] h = absurd (false≢true h)
 placed v (x ∷ xs) h = at_test (x == v) refl (placed v xs)
   where
@@ -210,10 +210,10 @@ placed v (x ∷ xs) h = at_test (x == v) refl (placed v xs)
       | inr k ↦ k
     ]
 
-    at_test : (b : Bool) → (x == v) ≡ b → (is_member v xs ≡ true → get_or xs (place_below xs v) 0 ≡ v) → get_or (x ∷ xs) (if not b then 1 + place_below xs v else 0) 0 ≡ v
+    at_test : (b : Bool) → (x == v) ≡ b → (is_member v xs ≡ true → get_or xs (place_in xs v) 0 ≡ v) → get_or (x ∷ xs) (if not b then 1 + place_in xs v else 0) 0 ≡ v
     at_test true e again = eqb-true x v e
     at_test false e again =
-        let next : 1 + place_below xs v ≡ suc (place_below xs v) = omega arith in
+        let next : 1 + place_in xs v ≡ suc (place_in xs v) = omega arith in
         ap (λ (j : ℕ). get_or (x ∷ xs) j 0) next ∙ again (later e)
 
 -- ---- clauses in order
