@@ -2,3 +2,4 @@ pub mod Places
 pub mod Rows
 pub mod Lines
 pub mod Batches
+pub mod Found

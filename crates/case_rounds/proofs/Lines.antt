@@ -4,7 +4,6 @@ use Rattle.std.specs.Prelude.{IsSomeAnd, Contains}
 use Rattle.std.specs.List.{slice_get}
 use Rattle.std.proofs.lemmas.Bool.{cases_lt, cases_Bool, and_parts}
 use Rattle.std.proofs.lemmas.List.{append-nil}
-use Rattle.std.proofs.lemmas.Option.{slice_get_within}
 use Rattle.spl_terms.specs.declared.atom.Atom.{Atom}
 use Rattle.spl_terms.specs.declared.clause.Clause.{Clause}
 use Rattle.spl_terms.specs.Clauses.{is_empty, in_order, renumbered, no_atoms, IsEmpty}
@@ -72,7 +71,7 @@ lines_none v = record {
   going = λ l h. absurd (let e = h.1 in cc);
 }
 
-at_end : (old : List Line) (l : Line) (k : ℕ) (x : Line) → slice_get (old ++ l ∷ []) k ≡ Some x → ((k < length old) × (slice_get old k ≡ Some x)) ⊎ ((k ≡ length old) × (l ≡ x))
+pub at_end : (old : List Line) (l : Line) (k : ℕ) (x : Line) → slice_get (old ++ l ∷ []) k ≡ Some x → ((k < length old) × (slice_get old k ≡ Some x)) ⊎ ((k ≡ length old) × (l ≡ x))
 at_end [] l zero x e = let h : l ≡ x = cc in inr (refl, h)
 at_end [] l (suc k) x e = absurd (cc)
 at_end (y ∷ ys) l zero x e = inl (omega arith, e)
@@ -139,21 +138,6 @@ contains_at : (xs : List ℕ) (n : ℕ) → (c : Contains xs n) → slice_get xs
 contains_at [] n c = absurd (omega (arith, c.1))
 contains_at (x ∷ xs) n (zero, low, is) = ap Some is
 contains_at (x ∷ xs) n (suc k, low, is) = contains_at xs n (k, omega (arith, low), is)
-
--- ---- searching in lists
-
-pub none_more : {A : Type 0} (P : A → Type 0) (xs : List A) (n : ℕ) (x : A) → slice_get xs n ≡ Some x → P x → ((k : ℕ) (y : A) → k < n → slice_get xs k ≡ Some y → P y) → (k : ℕ) (y : A) → k < n + 1 → slice_get xs k ≡ Some y → P y
-none_more P xs n x at here before k y low e = elim (cases_lt k n) [
-  | inl less ↦ before k y less e
-  | inr more ↦
-      let same : n ≡ k = omega (arith, low, more) in
-      let z : Some x ≡ Some y = sym at ∙ (ap (slice_get xs) same ∙ e) in
-      let q : x ≡ y = cc in
-      subst P q here
-]
-
-pub none_in : {A : Type 0} (P : A → Type 0) (xs : List A) (n : ℕ) → length xs ≤ n → ((k : ℕ) (y : A) → k < n → slice_get xs k ≡ Some y → P y) → (y : A) → IsIn xs y → P y
-none_in P xs n long h y at = h at.0 y (omega (arith, long, slice_get_within xs at.0 y at.1)) at.1
 
 -- ---- whether a clause is empty
 

@@ -9,6 +9,7 @@ mod inferring;
 mod keeping;
 mod laws;
 mod round;
+mod round_lines;
 
 pub use laws::{rounds_can_be_appended, rounds_wait};
 pub use round::{Batch, Finish, compute_round};

@@ -6,6 +6,7 @@ ghost use Rattle.case_rounds.specs.Rounds.{Extends, IsPremiseOf, IsPairOf, IsRou
 use crate::halt::Halt;
 use crate::inferring::inferences;
 use crate::keeping::keep_all;
+use crate::round_lines::RoundLines;
 use case_journal::Limits;
 use case_view::{CaseView, Kept};
 use proof_steps::{Line, Parts, split_of};
@@ -41,7 +42,7 @@ pub struct Batch {
 fn cover_pair(
     alloc: Global,
     view: &CaseView,
-    lines: &mut Items<Line>,
+    lines: &mut RoundLines,
     given: &Kept,
     other: &Kept,
 ) -> Result<(), Halt>
@@ -65,7 +66,7 @@ fn cover_pair(
 fn cover_all(
     alloc: Global,
     view: &CaseView,
-    lines: &mut Items<Line>,
+    lines: &mut RoundLines,
     given: &Kept,
 ) -> Result<(), Halt>
     requires none { lines.old ≡ [] }
@@ -83,6 +84,33 @@ fn cover_all(
     Ok(())
 }
 
+/// Splits the given clause where it has parts and splits are left, else infers all from it, and says how the round is
+/// finished.
+fn finish_round(
+    alloc: Global,
+    view: &CaseView,
+    limits: &Limits,
+    lines: &mut RoundLines,
+) -> Result<Finish, AllocError>
+    requires given { IsSome view.now.given }
+    requires none { lines.old ≡ [] }
+    ensures lines { OnOk result (AreLinesOf view.now lines.new) }
+    ensures finish { IfOk result (λ finish. IsFinishOf limits.now.splits view.now lines.new finish) }
+{
+    let given = view.given().unwrap();
+    if view.splits() < limits.splits {
+        if let Some(parts) = split_of(alloc, &given.stated.clause)? {
+            return Ok(Finish::Split { parts });
+        }
+    }
+    match cover_all(alloc, view, lines, given) {
+        Ok(()) => Ok(Finish::Activate),
+        Err(Halt::Closed) => Ok(Finish::Closed),
+        Err(Halt::Big { partner, symbols }) => Ok(Finish::Big { partner, symbols }),
+        Err(Halt::Memory) => Err(AllocError),
+    }
+}
+
 /// Computes a round of the case: splits the given clause where it has parts and splits are left, else infers all from
 /// it and the clauses that are worked off, and keeps what is new (the main loop of Weidenbach 2001). It sees no table:
 /// what it answers may be published whatever other workers append meanwhile (`rounds_can_be_appended`, `rounds_wait`).
@@ -97,27 +125,11 @@ pub fn compute_round(alloc: Global, view: &CaseView, limits: &Limits) -> Result<
     ensures finish { IfOk result (λ batch. IsFinishOf limits.now.splits view.now batch.lines batch.finish) }
 {
     let base = view.base();
-    let given = view.given().unwrap();
-    let mut lines = Items::new(alloc);
-    if view.splits() < limits.splits {
-        if let Some(parts) = split_of(alloc, &given.stated.clause)? {
-            let finish = Finish::Split { parts };
-            return Ok(Batch {
-                base,
-                lines,
-                finish,
-            });
-        }
-    }
-    let finish = match cover_all(alloc, view, &mut lines, given) {
-        Ok(()) => Finish::Activate,
-        Err(Halt::Closed) => Finish::Closed,
-        Err(Halt::Big { partner, symbols }) => Finish::Big { partner, symbols },
-        Err(Halt::Memory) => return Err(AllocError),
-    };
+    let mut lines = RoundLines::new(alloc);
+    let finish = finish_round(alloc, view, limits, &mut lines)?;
     Ok(Batch {
         base,
-        lines,
+        lines: lines.into_items(),
         finish,
     })
 }
