@@ -101,57 +101,9 @@ pub enum Word {
     Plain,
 }
 
+/// The words of the grammar, by the length of their spelling.
 const WORDS: [Word; 45] = [
-    Word::BeginProblem,
-    Word::EndProblem,
-    Word::EndOfList,
-    Word::ListOfDescriptions,
-    Word::ListOfSymbols,
-    Word::ListOfClauses,
-    Word::ListOfDeclarations,
-    Word::ListOfFormulae,
-    Word::ListOfProof,
-    Word::ListOfSettings,
-    Word::ListOfTerms,
-    Word::ListOfSpecialFormulae,
-    Word::ListOfIncludes,
-    Word::Name,
-    Word::Author,
-    Word::Version,
-    Word::Logic,
-    Word::Description,
-    Word::Date,
-    Word::Status,
-    Word::Satisfiable,
-    Word::Unsatisfiable,
-    Word::Unknown,
-    Word::Functions,
-    Word::Predicates,
-    Word::Sorts,
-    Word::Operators,
-    Word::Quantifiers,
-    Word::Translpairs,
-    Word::Axioms,
-    Word::Conjectures,
-    Word::Cnf,
-    Word::Dnf,
-    Word::Clause,
-    Word::Forall,
-    Word::Exists,
-    Word::Not,
-    Word::And,
-    Word::Or,
-    Word::Implies,
-    Word::Implied,
-    Word::Equiv,
-    Word::Equal,
-    Word::True,
-    Word::False,
-];
-
-// The same words by their length, underscores counted, each list in the order of `WORDS`.
-
-const WORDS_TO_4: [Word; 8] = [
+    // up to 4 bytes
     Word::Name,
     Word::Date,
     Word::Cnf,
@@ -160,26 +112,20 @@ const WORDS_TO_4: [Word; 8] = [
     Word::And,
     Word::Or,
     Word::True,
-];
-
-const WORDS_OF_5: [Word; 5] = [
+    // 5 bytes
     Word::Logic,
     Word::Sorts,
     Word::Equiv,
     Word::Equal,
     Word::False,
-];
-
-const WORDS_OF_6: [Word; 6] = [
+    // 6 bytes
     Word::Author,
     Word::Status,
     Word::Axioms,
     Word::Clause,
     Word::Forall,
     Word::Exists,
-];
-
-const WORDS_TO_10: [Word; 7] = [
+    // 7 to 10 bytes
     Word::Version,
     Word::Unknown,
     Word::Functions,
@@ -187,9 +133,7 @@ const WORDS_TO_10: [Word; 7] = [
     Word::Operators,
     Word::Implies,
     Word::Implied,
-];
-
-const WORDS_OF_11: [Word; 7] = [
+    // 11 bytes
     Word::EndProblem,
     Word::EndOfList,
     Word::Description,
@@ -197,9 +141,7 @@ const WORDS_OF_11: [Word; 7] = [
     Word::Quantifiers,
     Word::Translpairs,
     Word::Conjectures,
-];
-
-const WORDS_FROM_12: [Word; 12] = [
+    // 12 bytes and more
     Word::BeginProblem,
     Word::ListOfDescriptions,
     Word::ListOfSymbols,
@@ -308,19 +250,20 @@ fn find_word(words: &[Word], text: &[u8]) -> Word
 fn words_as_long(text: &[u8]) -> &'static [Word]
     ensures { first_word result.now text.now ≡ first_word WORDS text.now }
 {
+    let words: &'static [Word] = &WORDS;
     let len = text.len();
     if len < 5 {
-        &WORDS_TO_4
+        &words[..8]
     } else if len < 6 {
-        &WORDS_OF_5
+        &words[8..13]
     } else if len < 7 {
-        &WORDS_OF_6
+        &words[13..19]
     } else if len < 11 {
-        &WORDS_TO_10
+        &words[19..26]
     } else if len < 12 {
-        &WORDS_OF_11
+        &words[26..33]
     } else {
-        &WORDS_FROM_12
+        &words[33..]
     }
 }
 
