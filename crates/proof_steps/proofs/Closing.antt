@@ -1,7 +1,6 @@
 -- Where a side of a split is closed, the other part follows; where both are, the empty clause does.
-use Rattle.std.proofs.Common.{◌≡◌, ◌⊎◌, inl, inr, ℕ, Bool, true, false, ◌&&◌, ◌==◌, if◌then◌else◌, List, [], ◌∷◌, Contains, Option, Some, None, refl, sym, subst, ◌∙◌}
+use Rattle.std.proofs.Common.{◌≡◌, ◌⊎◌, inl, inr, ℕ, Bool, true, false, if◌then◌else◌, List, [], Contains, Option, Some, refl, sym, subst, ◌∙◌}
 use Rattle.std.specs.List.{list_any}
-use Rattle.std.proofs.lemmas.Bool.{eqb-true, and_parts}
 use Rattle.spl_terms.specs.declared.atom.Atom.{Atom}
 use Rattle.spl_terms.specs.declared.clause.Clause.{Clause}
 use Rattle.spl_terms.specs.Clauses.{replace_in, IsEmpty, atom_eq}
@@ -12,7 +11,6 @@ use Rattle.clause_parts.specs.Parts.{Parted, parts_of}
 use Rattle.clause_parts.specs.Sides.{SplitPart, negations, side_clauses, place_of, assumed}
 use Rattle.clause_parts.specs.SideLaws.{two_parts, side_clauses-two}
 use Rattle.proof_steps.specs.Steps.{joined}
-use Rattle.proof_steps.proofs.Steps.{some_inj}
 use Rattle.proof_steps.proofs.Options.{Contains-get}
 use Rattle.proof_steps.proofs.Resolution.{at_ground, empty-false}
 use Rattle.proof_steps.proofs.Cut.{cut, itself, by_cases}

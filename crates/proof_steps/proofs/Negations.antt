@@ -1,21 +1,18 @@
 -- The negation of an atom of a clause without variables, joined with that clause, is a tautology.
-use Rattle.std.proofs.Common.{◌≡◌, inl, inr, ℕ, zero, suc, ◌+◌, ◌-◌, ◌<◌, ◌≤◌, Bool, true, false, not, ◌||◌, if◌then◌else◌, List, [], ◌∷◌, ◌++◌, length, map, Contains, Some, option_map, refl, sym, ap, subst, ◌∙◌, arith, length-append}
-use Rattle.std.specs.List.{list_all, list_any, slice_get}
-use Rattle.std.specs.Prelude.{nat_lt}
-use Rattle.std.proofs.lemmas.Bool.{ltb-true, ltb-false, and_parts, or_right}
+use Rattle.std.proofs.Common.{◌≡◌, inl, inr, ℕ, zero, suc, Bool, true, false, not, ◌||◌, if◌then◌else◌, List, [], ◌∷◌, ◌++◌, map, Contains, refl, sym, ap, subst, ◌∙◌, arith}
+use Rattle.std.specs.List.{list_all, list_any}
+use Rattle.std.proofs.lemmas.Bool.{and_parts, or_right}
 use Rattle.std.proofs.lemmas.List.Elements.{Contains-append_left, Contains-append_right, Contains-append_cases, All-nil}
 use Rattle.spl_terms.specs.declared.term.Term.{Term}
 use Rattle.spl_terms.specs.declared.atom.Atom.{Atom}
 use Rattle.spl_terms.specs.declared.clause.Clause.{Clause}
-use Rattle.spl_terms.specs.Clauses.{atom_variables, atoms_of, is_of_sort, replace_in_atom, replace_in, in_order, atom_eq}
+use Rattle.spl_terms.specs.Clauses.{atom_variables, is_of_sort, replace_in_atom, replace_in, in_order, atom_eq}
 use Rattle.spl_truth.specs.Truth.{is_ground_atom, is_ground, IsGroundInstance, IsUsable, truth, FollowsAt}
 use Rattle.spl_truth.specs.InstanceLaws.{at_each, atom-replace-replace}
-use Rattle.clause_parts.specs.Parts.{as_true, as_false, negation, negated_atom}
+use Rattle.clause_parts.specs.Parts.{as_true, as_false}
 use Rattle.proof_steps.specs.Steps.{joined}
 use Rattle.clause_parts.specs.Sides.{negations}
 use Rattle.proof_steps.proofs.Steps.{ground_atom, no_numbers}
-use Rattle.spl_terms.specs.ListLaws.{get-left, get-behind}
-use Rattle.proof_steps.proofs.Options.{mapped, Contains-get}
 use Rattle.proof_steps.proofs.Resolution.{negative, either_joined}
 use Rattle.clause_parts.specs.JointLaws.{agree_atom}
 

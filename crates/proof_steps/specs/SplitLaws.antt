@@ -9,10 +9,10 @@ use Rattle.spl_terms.specs.Clauses.{in_order}
 use Rattle.dep_sets.specs.declared.deps.Assumption.{Assumption}
 use Rattle.dep_sets.specs.Assumptions.{united, without_assumption}
 use Rattle.clause_parts.specs.Parts.{Parted, marked, part_by, left_marks, parted_by, parts_of, negated_atom}
-use Rattle.clause_parts.specs.Sides.{split_parts, negations, ground_negations, side_clauses, place_of, assumed}
+use Rattle.clause_parts.specs.Sides.{split_parts, negations, assumed}
 use Rattle.clause_parts.specs.SideLaws.{two_parts, split_parts-two, negations-get}
 use Rattle.proof_steps.specs.declared.step.Statement.{Statement}
-use Rattle.proof_steps.specs.Steps.{when, numbered, states, side_of, closes, assumption_of, ascend_within, are_closed, closed_deps, either_marked, without_parts, by_cases, side_closed, both_closed}
+use Rattle.proof_steps.specs.Steps.{when, states, side_of, closes, assumption_of, ascend_within, are_closed, closed_deps, either_marked, without_parts, by_cases, side_closed, both_closed}
 
 -- ---- what is assumed
 

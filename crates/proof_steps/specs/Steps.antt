@@ -2,7 +2,7 @@
 -- Resolution, factoring, paramodulation (superposition), equality resolution and equality factoring are those of
 -- Weidenbach 2001, section on superposition, here for given substitutions; the case rules are its splitting rule,
 -- as steps of one proof.
-use Rattle.std.specs.Prelude.{◌≡◌, ℕ, zero, suc, ◌<◌, ◌≤◌, min, ⊤, Bool, true, false, ◌&&◌, ◌||◌, ◌==◌, if◌then◌else◌, List, [], ◌∷◌, ◌++◌, length, Option, Some, None, IfSome, IsSomeAnd, Result, Ok, Err, option_map, option_and_then, slice_get, remove, nat_le, nat_lt, map, not, filter_map}
+use Rattle.std.specs.Prelude.{◌≡◌, ℕ, ◌<◌, ◌≤◌, min, ⊤, Bool, true, false, ◌&&◌, ◌||◌, ◌==◌, if◌then◌else◌, List, [], ◌∷◌, ◌++◌, length, Option, Some, None, IfSome, IsSomeAnd, Result, Ok, Err, option_map, option_and_then, slice_get, remove, nat_le, nat_lt, map, not, filter_map}
 use Rattle.spl_terms.specs.declared.term.Term.{Term}
 use Rattle.spl_terms.specs.declared.atom.Atom.{Atom}
 use Rattle.spl_terms.specs.declared.atom.Atom.TheVariants.{Holds, Equal}

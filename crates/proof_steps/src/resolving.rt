@@ -33,7 +33,8 @@ impl Literals {
 
 // ---- the test
 
-fn is_negative(part: Part) -> bool
+/// Whether the part stands on the left of the arrow.
+pub fn is_negative(part: Part) -> bool
     ensures { result ≡ is_negative part }
 {
     match part {
@@ -92,7 +93,7 @@ fn copies(
 }
 
 /// The atoms before and behind the one at this place, from 0.
-fn around(atoms: &[Atom], place: usize) -> (&[Atom], &[Atom])
+pub fn around(atoms: &[Atom], place: usize) -> (&[Atom], &[Atom])
     requires { place < length atoms.now }
     ensures { result.0.now ++ result.1.now ≡ remove atoms.now place }
 {
@@ -181,7 +182,7 @@ fn resolvent_stated(
 }
 
 /// What resolution concludes from two clauses as they stand.
-pub fn resolved(
+fn resolved(
     alloc: Global,
     literals: Literals,
     p: &Clause,

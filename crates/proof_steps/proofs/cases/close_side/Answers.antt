@@ -1,7 +1,7 @@
 use Rattle.std.proofs.Common.{◌≡◌, ◌∙◌, true, option_map, sym, ap, subst}
 use Rattle.std.specs.Prelude.{IfOk}
 use Rattle.spl_terms.specs.Clauses.{in_order}
-use Rattle.dep_sets.specs.Assumptions.{united, without_assumption}
+use Rattle.dep_sets.specs.Assumptions.{united}
 use Rattle.proof_steps.specs.Steps.{states, side_of, closes, within}
 use Rattle.proof_steps.proofs.CaseLemmas.{left_over}
 use Rattle.proof_steps.proofs.cases.close_side.Goals as goal

@@ -1,22 +1,24 @@
-use Rattle.std.proofs.Common.{◌≡◌, ◌∙◌, ◌&&◌, true, option_map, sym, subst}
-use Rattle.std.specs.Prelude.{Ok, Err}
-use Rattle.spl_terms.specs.declared.clause.PushError.TheVariants.{Big}
-use Rattle.dep_sets.specs.Assumptions.{united}
-use Rattle.proof_steps.specs.Steps.{has_entries, resolved, states, Sized}
-use Rattle.proof_steps.proofs.Steps.{from_instances, sized_ok, sized_big}
+use Rattle.std.proofs.Common.{◌≡◌, ◌∙◌, ◌&&◌, true, Some, IfOk, sym, subst}
+use Rattle.spl_terms.specs.Clauses.{in_order}
+use Rattle.spl_truth.specs.Truth.{apply}
+use Rattle.proof_steps.specs.Steps.{has_entries, may_resolve, resolvent, states, within}
+use Rattle.proof_steps.proofs.JoinedParts.{resolution_made}
 use Rattle.proof_steps.proofs.concluding.resolve.Goals as goal
 
-pub returns-in-Ok : goal.returns-in-Ok
-returns-in-Ok c =
+pub returns : goal.returns
+returns c =
     let a = c.args in
-    let fit : (has_entries a.s.now.terms a.p.now.clause && has_entries a.t.now.terms a.q.now.clause) ≡ true = sym c.in_ok-both_fit.ensures ∙ c.if-not-branch.false in
-    let same = from_instances a.literals.i a.literals.part a.literals.j a.s.now.terms a.t.now.terms a.p.now a.q.now c.in_ok-first.first c.in_ok-second.second fit c.in_ok-first.ensures c.in_ok-second.ensures in
-    sized_ok _ c.in-Ok.made (subst (λ o. Sized o (Ok c.in-Ok.made)) same c.in-Ok.ensures)
-
-pub returns-in-Err-Big : goal.returns-in-Err-Big
-returns-in-Err-Big c =
-    let a = c.args in
-    let fit : (has_entries a.s.now.terms a.p.now.clause && has_entries a.t.now.terms a.q.now.clause) ≡ true = sym c.in_ok-both_fit.ensures ∙ c.if-not-branch.false in
-    let same = from_instances a.literals.i a.literals.part a.literals.j a.s.now.terms a.t.now.terms a.p.now a.q.now c.in_ok-first.first c.in_ok-second.second fit c.in_ok-first.ensures c.in_ok-second.ensures in
-    let big = subst (λ e. Sized (option_map (λ d. states d (united a.p.now.deps a.q.now.deps)) (resolved a.literals.i a.literals.part a.literals.j c.in_ok-first.first c.in_ok-second.second)) (Err e)) c.in-Err-Big.field-0-is c.in-Err-Big.ensures in
-    sized_big _ _ (subst (λ o. Sized o (Err (Big c.in-Err-Big.field-0-0))) same big)
+    let l = a.literals in
+    let p = a.p.now in
+    let q = a.q.now in
+    let first = c.as_slice-first.ensures in
+    let second = c.as_slice-second.ensures in
+    let back = sym first in
+    let back_too = sym second in
+    let fit : (has_entries a.s.now.terms p.clause && has_entries a.t.now.terms q.clause) ≡ true = sym c.in_ok-both_fit.ensures ∙ c.if-not-branch.false in
+    let may : may_resolve l.i l.part l.j (apply a.s.now.terms p.clause) (apply a.t.now.terms q.clause) ≡ true =
+    (λ k. may_resolve l.i l.part l.j (apply (back k) p.clause) (apply (back_too k) q.clause)) ∙ sym c.may_resolve_instances.ensures ∙ c.if-not-may_resolve_instances.false in
+    subst (λ o. IfOk c.ordered_resolvent.result (λ m. m ≡ within o))
+    ((λ k. Some (states (in_order (resolvent l.i l.part l.j (apply (first k) p.clause) (apply (second k) q.clause))) (c.in_ok-deps.ensures.exact k)))
+    ∙ resolution_made l.i l.part l.j a.s.now.terms a.t.now.terms p q fit may)
+    c.ordered_resolvent.ensures
