@@ -4,7 +4,7 @@ use Rattle.spl_terms.specs.declared.atom.Atom.{Atom}
 use Rattle.formulas.specs.declared.tree.Tree as tree
 use Rattle.formulas.specs.declared.tree.Tree.{Tree}
 use Rattle.formulas.specs.Trees.{foralls, exists}
-use Rattle.formulas.specs.Negations.{Form, constant, literal, both, either, signed_form, all_of, some_of}
+use Rattle.formulas.specs.Negations.{Form, constant, literal, both, either, signed_form, all_of, some_hold}
 use Rattle.formulas.specs.Counts.{clause_count, existentials, saturated, count_of, counts_of}
 use Rattle.formulas.specs.FormLaws.{form-True, form-False, form-Atom, form-Not, form-And, form-Or, form-Forall, form-Exists}
 
@@ -24,11 +24,11 @@ counts-Atom a = counts_by (tree.Atom a) (literal true a) (literal false a) (form
 pub counts-Not : (t : Tree) → counts_of (tree.Not t) ≡ record { positive = (counts_of t).negative; negative = (counts_of t).positive }
 counts-Not t = counts_by (tree.Not t) (signed_form t false) (signed_form t true) (form-Not t true) (form-Not t false)
 
-pub counts-And : (ts : List Tree) → counts_of (tree.And ts) ≡ record { positive = count_of (all_of true ts); negative = count_of (some_of false ts) }
-counts-And ts = counts_by (tree.And ts) (all_of true ts) (some_of false ts) (form-And ts true) (form-And ts false)
+pub counts-And : (ts : List Tree) → counts_of (tree.And ts) ≡ record { positive = count_of (all_of true ts); negative = count_of (some_hold false ts) }
+counts-And ts = counts_by (tree.And ts) (all_of true ts) (some_hold false ts) (form-And ts true) (form-And ts false)
 
-pub counts-Or : (ts : List Tree) → counts_of (tree.Or ts) ≡ record { positive = count_of (some_of true ts); negative = count_of (all_of false ts) }
-counts-Or ts = counts_by (tree.Or ts) (some_of true ts) (all_of false ts) (form-Or ts true) (form-Or ts false)
+pub counts-Or : (ts : List Tree) → counts_of (tree.Or ts) ≡ record { positive = count_of (some_hold true ts); negative = count_of (all_of false ts) }
+counts-Or ts = counts_by (tree.Or ts) (some_hold true ts) (all_of false ts) (form-Or ts true) (form-Or ts false)
 
 -- ---- one more of several parts
 
@@ -50,8 +50,8 @@ next_place i = omega arith
 pub all_more : (sign : Bool) (ts : List Tree) (i : ℕ) (t : Tree) → i < length ts → t ≡ get_or ts i t → both (all_of sign (take i ts)) (signed_form t sign) ≡ all_of sign (take (i + 1) ts)
 all_more sign ts i t h e = sym (both_more sign (constant true) ts i t h e) ∙ ap (λ (j : ℕ). all_of sign (take j ts)) (next_place i)
 
-pub some_more : (sign : Bool) (ts : List Tree) (i : ℕ) (t : Tree) → i < length ts → t ≡ get_or ts i t → either (some_of sign (take i ts)) (signed_form t sign) ≡ some_of sign (take (i + 1) ts)
-some_more sign ts i t h e = sym (either_more sign (constant false) ts i t h e) ∙ ap (λ (j : ℕ). some_of sign (take j ts)) (next_place i)
+pub some_more : (sign : Bool) (ts : List Tree) (i : ℕ) (t : Tree) → i < length ts → t ≡ get_or ts i t → either (some_hold sign (take i ts)) (signed_form t sign) ≡ some_hold sign (take (i + 1) ts)
+some_more sign ts i t h e = sym (either_more sign (constant false) ts i t h e) ∙ ap (λ (j : ℕ). some_hold sign (take j ts)) (next_place i)
 
 -- ---- blocks
 

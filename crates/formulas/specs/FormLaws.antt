@@ -6,7 +6,7 @@ use Rattle.formulas.specs.declared.tree.Tree.{Tree, Tree-F}
 use Rattle.formulas.specs.declared.tree.Tree.TheOpen as layer
 use Rattle.formulas.specs.declared.tree.Tree.TheViews.{roll-Tree, rolls-True, rolls-False, rolls-Atom, rolls-Not, rolls-And, rolls-Or, rolls-Implies, rolls-Equiv, rolls-Forall, rolls-Exists}
 use Rattle.formulas.specs.declared.tree.Tree.TheFolds.{map-Tree, fold-roll-Tree}
-use Rattle.formulas.specs.Negations.{Form, constant, literal, both, either, joined, quantified, form_step, signed_form}
+use Rattle.formulas.specs.Negations.{Form, constant, literal, both, either, connected, quantified, form_step, signed_form}
 
 rolled : (t : Tree) (y : Tree-F Tree) (sign : Bool) → t ≡ roll-Tree y → signed_form t sign ≡ form_step (map-Tree Tree (Bool → Form) signed_form y) sign
 rolled t y sign e = ap (λ u. signed_form u sign) e ∙ ap (λ h. h sign) (fold-roll-Tree (Bool → Form) form_step y)
@@ -23,10 +23,10 @@ form-Atom a sign = rolled (f.Atom a) (layer.Atom a) sign (sym (rolls-Atom a))
 pub form-Not : (t : Tree) (sign : Bool) → signed_form (f.Not t) sign ≡ signed_form t (not sign)
 form-Not t sign = rolled (f.Not t) (layer.Not t) sign (sym (rolls-Not t))
 
-pub form-And : (ts : List Tree) (sign : Bool) → signed_form (f.And ts) sign ≡ joined sign (map (λ g. g sign) (map signed_form ts))
+pub form-And : (ts : List Tree) (sign : Bool) → signed_form (f.And ts) sign ≡ connected sign (map (λ g. g sign) (map signed_form ts))
 form-And ts sign = rolled (f.And ts) (layer.And ts) sign (sym (rolls-And ts))
 
-pub form-Or : (ts : List Tree) (sign : Bool) → signed_form (f.Or ts) sign ≡ joined (not sign) (map (λ g. g sign) (map signed_form ts))
+pub form-Or : (ts : List Tree) (sign : Bool) → signed_form (f.Or ts) sign ≡ connected (not sign) (map (λ g. g sign) (map signed_form ts))
 form-Or ts sign = rolled (f.Or ts) (layer.Or ts) sign (sym (rolls-Or ts))
 
 pub form-Implies : (t u : Tree) → signed_form (f.Implies t u) true ≡ either (signed_form t false) (signed_form u true)

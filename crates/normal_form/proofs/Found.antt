@@ -8,7 +8,7 @@ use Rattle.normal_form.specs.declared.scope.Block.{Block}
 use Rattle.spl_terms.specs.declared.clause.Clause.{Clause}
 use Rattle.formulas.specs.Trees.{tree_size}
 use Rattle.normal_form.specs.Clausal.{Literal}
-use Rattle.normal_form.specs.Gathering.{gathered, with_literal}
+use Rattle.normal_form.specs.Gathering.{gathered, with_signed_atom}
 use Rattle.formulas.specs.declared.tree.Tree.{Tree}
 use Rattle.std.proofs.Math.Nat.{mul-zero, mul_comm, mod-lt, div-lt_iff_lt-mul}
 use Rattle.std.proofs.lemmas.Nat.{mul-le, div-mul-add}
@@ -113,7 +113,7 @@ drop_past (t ∷ ts) zero h = absurd (omega arith)
 drop_past (t ∷ ts) (suc i) h = drop_past ts i (omega arith)
 
 pub gathered_two : (c : Clause) (xs ys : List Literal) → gathered c (xs ++ ys) ≡ gathered (gathered c xs) ys
-gathered_two c xs ys = fold-append with_literal c xs ys
+gathered_two c xs ys = fold-append with_signed_atom c xs ys
 
 -- ---- leaving a quantifier's scope
 

@@ -10,7 +10,7 @@ use Rattle.spl_terms.specs.Clauses.{is_of_sort, is_same, added, part_of, with_at
 use Rattle.spl_terms.specs.InOrderLaws.{distinct-different, different-distinct}
 use Rattle.spl_terms.specs.SizeLaws.{with_atom-repeated, with_atom-new}
 use Rattle.normal_form.specs.Clausal.{Literal, stands_right, stands_left, stands_in_constraint, atoms_where, clause_from}
-use Rattle.normal_form.specs.Gathering.{part_for, with_literal, no_literals, gathered}
+use Rattle.normal_form.specs.Gathering.{part_for, with_signed_atom, nothing_gathered, gathered}
 
 -- the atoms of a part, with those of the literals added
 abbrev more : (Literal → Bool) → List Atom → List Literal → List Atom
@@ -21,7 +21,7 @@ by_parts c ls = record { constraint = more stands_in_constraint c.constraint ls;
 
 gathered_parts : (c : Clause) (ls : List Literal) → gathered c ls ≡ by_parts c ls
 gathered_parts c [] = refl
-gathered_parts c (l ∷ ls) = gathered_parts (with_literal c l) ls ∙ one l.sign (is_of_sort l.atom)
+gathered_parts c (l ∷ ls) = gathered_parts (with_signed_atom c l) ls ∙ one l.sign (is_of_sort l.atom)
   where
     one : (sign sort : Bool) → by_parts (with_atom c (if sign then Succedent else (if sort then Constraint else Antecedent)) l.atom) ls
         ≡ record {
@@ -34,10 +34,10 @@ gathered_parts c (l ∷ ls) = gathered_parts (with_literal c l) ls ∙ one l.sig
     one false false = refl
 
 -- once the variables are numbered, it is the clause of the list
-pub clause-gathered : (ls : List Literal) → clause_from ls ≡ renumbered (gathered no_literals ls)
-clause-gathered ls = ap renumbered (sym (gathered_parts no_literals ls))
+pub clause-gathered : (ls : List Literal) → clause_from ls ≡ renumbered (gathered nothing_gathered ls)
+clause-gathered ls = ap renumbered (sym (gathered_parts nothing_gathered ls))
 
-parts_kept : (ls : List Literal) → at_lists distinct (by_parts no_literals ls) ≡ by_parts no_literals ls
+parts_kept : (ls : List Literal) → at_lists distinct (by_parts nothing_gathered ls) ≡ by_parts nothing_gathered ls
 parts_kept ls =
     let kept : (test : Literal → Bool) → distinct (distinct (atoms_where test ls)) ≡ distinct (atoms_where test ls) = λ test. different-distinct (distinct (atoms_where test ls)) (distinct-different (atoms_where test ls)) in
     let x = kept stands_in_constraint in
@@ -46,8 +46,8 @@ parts_kept ls =
     λ i. record { constraint = x i; antecedent = y i; succedent = z i }
 
 -- and so it is once it is brought into order
-pub in_order-gathered : (ls : List Literal) → in_order (gathered no_literals ls) ≡ clause_from ls
-in_order-gathered ls = ap in_order (gathered_parts no_literals ls) ∙ ap renumbered (parts_kept ls)
+pub in_order-gathered : (ls : List Literal) → in_order (gathered nothing_gathered ls) ≡ clause_from ls
+in_order-gathered ls = ap in_order (gathered_parts nothing_gathered ls) ∙ ap renumbered (parts_kept ls)
 
 -- ---- sizes
 
@@ -60,4 +60,4 @@ atom_grows c part a = elim (cases_Bool (list_any (λ b. is_same a b) (part_of c 
 -- a clause that is too large stays so
 pub gathered_grows : (c : Clause) (ls : List Literal) → clause_symbols c ≤ clause_symbols (gathered c ls)
 gathered_grows c [] = omega arith
-gathered_grows c (l ∷ ls) = let h = gathered_grows (with_literal c l) ls in let k = atom_grows c (part_for l.sign l.atom) l.atom in omega arith
+gathered_grows c (l ∷ ls) = let h = gathered_grows (with_signed_atom c l) ls in let k = atom_grows c (part_for l.sign l.atom) l.atom in omega arith

@@ -7,9 +7,9 @@ ghost use Rattle.normal_form.specs.NormalForm.{clauses_of_form};
 ghost use Rattle.normal_form.specs.Walking.{CanAdd};
 
 use crate::gathering::Stop;
-use crate::walk::add;
+use crate::walk::{Walk, add};
 use formulas::Formula;
-use spl_terms::{Clause, Items};
+use spl_terms::Clause;
 use std::alloc::Global;
 
 /// The clause at this place, from 0, among those of a formula, or of its negation where the sign is false; next is the
@@ -28,10 +28,9 @@ pub fn clause_at(
     requires different { all_distinct (bindings formula.now) ≡ true }
     ensures { IfOk result (λ c. slice_get (clauses_of_form next (signed_form formula.now sign)) place ≡ Some c) }
 {
-    let mut blocks = Items::new(alloc);
-    let mut clause = Clause::new(alloc);
-    add(alloc, &mut blocks, &mut clause, formula, sign, next, place)?;
-    match clause.into_ordered(alloc) {
+    let mut walk = Walk::new(alloc);
+    add(&mut walk, formula, sign, next, place)?;
+    match walk.clause.into_ordered(alloc) {
         Ok(clause) => Ok(clause),
         Err(_) => Err(Stop::Memory),
     }

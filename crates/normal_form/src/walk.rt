@@ -2,12 +2,12 @@
 
 ghost use Rattle.std.specs.List.{flat_map};
 ghost use Rattle.std.specs.Prelude.{◌≡◌, ◌∷◌, ◌++◌, [], ◌<◌, ◌≤◌, ◌+◌, Bool, true, false, not, if◌then◌else◌, ℕ, OnOk, IfOk};
-ghost use Rattle.formulas.specs.Negations.{signed_form, all_of, some_of};
+ghost use Rattle.formulas.specs.Negations.{signed_form, all_of, some_hold};
 ghost use Rattle.formulas.specs.Counts.{count_of, clause_count};
 ghost use Rattle.normal_form.specs.declared.scope.Block.{Block};
 ghost use Rattle.normal_form.specs.Blocks.{place_below, term_in, numbers_from, for_each, for_any, universal_block, existential_block};
-ghost use Rattle.normal_form.specs.Gathering.{with_literal};
-ghost use Rattle.spl_terms.specs.Clauses.{replace_in_atom};
+ghost use Rattle.normal_form.specs.Gathering.{with_signed_atom};
+ghost use Rattle.spl_terms.specs.Clauses.{IsEmpty, replace_in_atom};
 ghost use Rattle.normal_form.specs.Walking.{CanAdd, AreFresh, one_of, both_of, agreement, difference, with_chosen};
 ghost use Rattle.normal_form.specs.Law.{bindings};
 
@@ -17,6 +17,28 @@ use crate::scoping::skolem_block;
 use formulas::{Case, Count, Formula};
 use spl_terms::{Atom, Clause, Items};
 use std::alloc::Global;
+
+/// What a walk to one list of literals carries: the scopes that it is in, and the clause that it fills.
+#[derive(Drop)]
+pub struct Walk {
+    alloc: Global,
+    pub blocks: Items<Block>,
+    pub clause: Clause,
+}
+
+impl Walk {
+    /// A walk outside all scopes, with an empty clause; it takes no memory.
+    pub fn new(alloc: Global) -> Walk
+        ensures blocks { result.blocks ≡ [] }
+        ensures clause { IsEmpty result.clause }
+    {
+        Walk {
+            alloc,
+            blocks: Items::new(alloc),
+            clause: Clause::new(alloc),
+        }
+    }
+}
 
 /// The count of a formula of one sign.
 pub fn count(formula: &Formula, sign: bool) -> Count
@@ -36,36 +58,29 @@ fn count_either(left: &Formula, left_sign: bool, right: &Formula, right_sign: bo
     count(left, left_sign).either(count(right, right_sign))
 }
 
-fn add_atom(
-    alloc: Global,
-    blocks: &Items<Block>,
-    clause: &mut Clause,
-    atom: &Atom,
-    sign: bool,
-) -> Result<(), Stop>
-    ensures { OnOk result (clause.new ≡ with_literal clause.old (record { sign = sign; atom = replace_in_atom (term_in blocks.now) atom.now })) }
+/// Adds an atom, with the terms of its scopes, as a literal.
+fn add_atom(walk: &mut Walk, atom: &Atom, sign: bool) -> Result<(), Stop>
+    ensures added { OnOk result (walk.new.clause ≡ with_signed_atom walk.old.clause
+        (record { sign = sign; atom = replace_in_atom (term_in walk.old.blocks) atom.now })) }
+    ensures kept { walk.new.blocks ≡ walk.old.blocks }
 {
-    match atom_instance(alloc, blocks.as_slice(), atom) {
-        Ok(atom) => add_literal(clause, sign, atom),
+    match atom_instance(walk.alloc, walk.blocks.as_slice(), atom) {
+        Ok(atom) => add_literal(&mut walk.clause, sign, atom),
         Err(_) => Err(Stop::Memory),
     }
 }
 
 /// Enters the scope of a universal quantifier.
-fn push_universal(
-    alloc: Global,
-    blocks: &mut Items<Block>,
-    first: u32,
-    count: u32,
-) -> Result<(), Stop>
-    ensures { OnOk result (blocks.new ≡ blocks.old ++ universal_block first count ∷ []) }
+fn push_universal(walk: &mut Walk, first: u32, count: u32) -> Result<(), Stop>
+    ensures pushed { OnOk result (walk.new.blocks ≡ walk.old.blocks ++ universal_block first count ∷ []) }
+    ensures kept { walk.new.clause ≡ walk.old.clause }
 {
     let block = Block {
         first,
         count,
-        terms: Items::new(alloc),
+        terms: Items::new(walk.alloc),
     };
-    match blocks.push(block) {
+    match walk.blocks.push(block) {
         Ok(()) => Ok(()),
         Err(_) => Err(Stop::Memory),
     }
@@ -73,19 +88,20 @@ fn push_universal(
 
 /// Enters the scope of an existential quantifier over this part, with its Skolem terms.
 fn push_existential(
-    alloc: Global,
-    blocks: &mut Items<Block>,
+    walk: &mut Walk,
     first: u32,
     count: u32,
     part: &Formula,
     next: u32,
 ) -> Result<(), Stop>
-    requires fresh { AreFresh blocks.now (numbers_from first count ++ bindings part.now) }
+    requires fresh { AreFresh walk.now.blocks (numbers_from first count ++ bindings part.now) }
     requires room { next + count ≤ 65536 }
-    ensures { OnOk result ((sign : Bool) → blocks.new ≡ blocks.old ++ existential_block first count (signed_form part.now sign) (place_below blocks.old next) ∷ []) }
+    ensures pushed { OnOk result ((sign : Bool) → walk.new.blocks ≡ walk.old.blocks
+        ++ existential_block first count (signed_form part.now sign) (place_below walk.old.blocks next) ∷ []) }
+    ensures kept { walk.new.clause ≡ walk.old.clause }
 {
-    match skolem_block(alloc, blocks.as_slice(), first, count, part, next) {
-        Ok(block) => match blocks.push(block) {
+    match skolem_block(walk.alloc, walk.blocks.as_slice(), first, count, part, next) {
+        Ok(block) => match walk.blocks.push(block) {
             Ok(()) => Ok(()),
             Err(_) => Err(Stop::Memory),
         },
@@ -96,81 +112,89 @@ fn push_existential(
 /// Adds the literals at this place, below the formula's count; next is the number of the next Skolem symbol.
 #[cycle(walk)]
 pub fn add(
-    alloc: Global,
-    blocks: &mut Items<Block>,
-    clause: &mut Clause,
+    walk: &mut Walk,
     formula: &Formula,
     sign: bool,
     next: u32,
     place: u32,
 ) -> Result<(), Stop>
     requires can { CanAdd (signed_form formula.now sign) next place }
-    requires fresh { AreFresh blocks.now (bindings formula.now) }
-    ensures added { OnOk result (clause.new ≡ with_chosen clause.old (signed_form formula.now sign) blocks.old next place) }
-    ensures kept { OnOk result (blocks.new ≡ blocks.old) }
+    requires fresh { AreFresh walk.now.blocks (bindings formula.now) }
+    ensures added { OnOk result (walk.new.clause ≡ with_chosen walk.old.clause
+        (signed_form formula.now sign) walk.old.blocks next place) }
+    ensures kept { OnOk result (walk.new.blocks ≡ walk.old.blocks) }
+{
+    if sign {
+        add_positive(walk, formula, next, place)
+    } else {
+        add_negative(walk, formula, next, place)
+    }
+}
+
+/// Adds a list of the formula.
+#[cycle(walk)]
+fn add_positive(walk: &mut Walk, formula: &Formula, next: u32, place: u32) -> Result<(), Stop>
+    requires can { CanAdd (signed_form formula.now true) next place }
+    requires fresh { AreFresh walk.now.blocks (bindings formula.now) }
+    ensures added { OnOk result (walk.new.clause ≡ with_chosen walk.old.clause
+        (signed_form formula.now true) walk.old.blocks next place) }
+    ensures kept { OnOk result (walk.new.blocks ≡ walk.old.blocks) }
 {
     match formula.case() {
         Case::True => Ok(()),
         Case::False => Ok(()),
-        Case::Atom(atom) => add_atom(alloc, blocks, clause, atom, sign),
-        Case::Not(part) => add(alloc, blocks, clause, part, !sign, next, place),
-        Case::Implies(left, right) => {
-            if sign {
-                add_both(alloc, blocks, clause, left, false, right, true, next, place)
-            } else {
-                add_one(alloc, blocks, clause, left, true, right, false, next, place)
-            }
-        }
-        Case::And(parts) => {
-            if sign {
-                add_in_one(alloc, blocks, clause, parts, true, next, place)
-            } else {
-                let rest = count(formula, sign).clauses;
-                add_in_each(alloc, blocks, clause, parts, false, next, place, rest)
-            }
-        }
+        Case::Atom(atom) => add_atom(walk, atom, true),
+        Case::Not(part) => add_negative(walk, part, next, place),
+        Case::Implies(left, right) => add_both(walk, left, false, right, true, next, place),
+        Case::And(parts) => add_in_one(walk, parts, true, next, place),
         Case::Or(parts) => {
-            if sign {
-                let rest = count(formula, sign).clauses;
-                add_in_each(alloc, blocks, clause, parts, true, next, place, rest)
-            } else {
-                add_in_one(alloc, blocks, clause, parts, false, next, place)
-            }
+            let rest = count(formula, true).clauses;
+            add_in_each(walk, parts, true, next, place, rest)
         }
-        Case::Equiv(left, right) => {
-            if sign {
-                add_equivalence(alloc, blocks, clause, left, right, next, place)
-            } else {
-                add_difference(alloc, blocks, clause, left, right, next, place)
-            }
+        Case::Equiv(left, right) => add_equivalence(walk, left, right, next, place),
+        Case::Forall(first, count, part) => add_universal(
+            walk, first, count, part, true, next, place,
+        ),
+        Case::Exists(first, count, part) => add_existential(
+            walk, first, count, part, true, next, place,
+        ),
+    }
+}
+
+/// Adds a list of the negation of the formula.
+#[cycle(walk)]
+fn add_negative(walk: &mut Walk, formula: &Formula, next: u32, place: u32) -> Result<(), Stop>
+    requires can { CanAdd (signed_form formula.now false) next place }
+    requires fresh { AreFresh walk.now.blocks (bindings formula.now) }
+    ensures added { OnOk result (walk.new.clause ≡ with_chosen walk.old.clause
+        (signed_form formula.now false) walk.old.blocks next place) }
+    ensures kept { OnOk result (walk.new.blocks ≡ walk.old.blocks) }
+{
+    match formula.case() {
+        Case::True => Ok(()),
+        Case::False => Ok(()),
+        Case::Atom(atom) => add_atom(walk, atom, false),
+        Case::Not(part) => add_positive(walk, part, next, place),
+        Case::Implies(left, right) => add_one(walk, left, true, right, false, next, place),
+        Case::And(parts) => {
+            let rest = count(formula, false).clauses;
+            add_in_each(walk, parts, false, next, place, rest)
         }
-        Case::Forall(first, count, part) => {
-            if sign {
-                add_universal(alloc, blocks, clause, first, count, part, true, next, place)
-            } else {
-                add_existential(
-                    alloc, blocks, clause, first, count, part, false, next, place,
-                )
-            }
-        }
-        Case::Exists(first, count, part) => {
-            if sign {
-                add_existential(alloc, blocks, clause, first, count, part, true, next, place)
-            } else {
-                add_universal(
-                    alloc, blocks, clause, first, count, part, false, next, place,
-                )
-            }
-        }
+        Case::Or(parts) => add_in_one(walk, parts, false, next, place),
+        Case::Equiv(left, right) => add_difference(walk, left, right, next, place),
+        Case::Forall(first, count, part) => add_existential(
+            walk, first, count, part, false, next, place,
+        ),
+        Case::Exists(first, count, part) => add_universal(
+            walk, first, count, part, false, next, place,
+        ),
     }
 }
 
 /// Adds a list of each of two formulas.
 #[cycle(walk)]
 fn add_both(
-    alloc: Global,
-    blocks: &mut Items<Block>,
-    clause: &mut Clause,
+    walk: &mut Walk,
     left: &Formula,
     left_sign: bool,
     right: &Formula,
@@ -179,31 +203,22 @@ fn add_both(
     place: u32,
 ) -> Result<(), Stop>
     requires can { CanAdd (one_of left.now left_sign right.now right_sign) next place }
-    requires left { AreFresh blocks.now (bindings left.now) }
-    requires right { AreFresh blocks.now (bindings right.now) }
-    ensures added { OnOk result (clause.new ≡ with_chosen clause.old (one_of left.now left_sign right.now right_sign) blocks.old next place) }
-    ensures kept { OnOk result (blocks.new ≡ blocks.old) }
+    requires left { AreFresh walk.now.blocks (bindings left.now) }
+    requires right { AreFresh walk.now.blocks (bindings right.now) }
+    ensures added { OnOk result (walk.new.clause ≡ with_chosen walk.old.clause
+        (one_of left.now left_sign right.now right_sign) walk.old.blocks next place) }
+    ensures kept { OnOk result (walk.new.blocks ≡ walk.old.blocks) }
 {
     let skolems = count(left, left_sign).skolems;
     let rows = count(right, right_sign).clauses;
-    add(alloc, blocks, clause, left, left_sign, next, place / rows)?;
-    add(
-        alloc,
-        blocks,
-        clause,
-        right,
-        right_sign,
-        next + skolems,
-        place % rows,
-    )
+    add(walk, left, left_sign, next, place / rows)?;
+    add(walk, right, right_sign, next + skolems, place % rows)
 }
 
 /// Adds a list of one of two formulas.
 #[cycle(walk)]
 fn add_one(
-    alloc: Global,
-    blocks: &mut Items<Block>,
-    clause: &mut Clause,
+    walk: &mut Walk,
     left: &Formula,
     left_sign: bool,
     right: &Formula,
@@ -212,19 +227,18 @@ fn add_one(
     place: u32,
 ) -> Result<(), Stop>
     requires can { CanAdd (both_of left.now left_sign right.now right_sign) next place }
-    requires left { AreFresh blocks.now (bindings left.now) }
-    requires right { AreFresh blocks.now (bindings right.now) }
-    ensures added { OnOk result (clause.new ≡ with_chosen clause.old (both_of left.now left_sign right.now right_sign) blocks.old next place) }
-    ensures kept { OnOk result (blocks.new ≡ blocks.old) }
+    requires left { AreFresh walk.now.blocks (bindings left.now) }
+    requires right { AreFresh walk.now.blocks (bindings right.now) }
+    ensures added { OnOk result (walk.new.clause ≡ with_chosen walk.old.clause
+        (both_of left.now left_sign right.now right_sign) walk.old.blocks next place) }
+    ensures kept { OnOk result (walk.new.blocks ≡ walk.old.blocks) }
 {
     let first = count(left, left_sign);
     if place < first.clauses {
-        add(alloc, blocks, clause, left, left_sign, next, place)
+        add(walk, left, left_sign, next, place)
     } else {
         add(
-            alloc,
-            blocks,
-            clause,
+            walk,
             right,
             right_sign,
             next + first.skolems,
@@ -236,28 +250,25 @@ fn add_one(
 /// Adds a list of an equivalence.
 #[cycle(walk)]
 fn add_equivalence(
-    alloc: Global,
-    blocks: &mut Items<Block>,
-    clause: &mut Clause,
+    walk: &mut Walk,
     left: &Formula,
     right: &Formula,
     next: u32,
     place: u32,
 ) -> Result<(), Stop>
     requires can { CanAdd (agreement left.now right.now) next place }
-    requires left { AreFresh blocks.now (bindings left.now) }
-    requires right { AreFresh blocks.now (bindings right.now) }
-    ensures added { OnOk result (clause.new ≡ with_chosen clause.old (agreement left.now right.now) blocks.old next place) }
-    ensures kept { OnOk result (blocks.new ≡ blocks.old) }
+    requires left { AreFresh walk.now.blocks (bindings left.now) }
+    requires right { AreFresh walk.now.blocks (bindings right.now) }
+    ensures added { OnOk result (walk.new.clause ≡ with_chosen walk.old.clause
+        (agreement left.now right.now) walk.old.blocks next place) }
+    ensures kept { OnOk result (walk.new.blocks ≡ walk.old.blocks) }
 {
     let first = count_either(left, false, right, true);
     if place < first.clauses {
-        add_both(alloc, blocks, clause, left, false, right, true, next, place)
+        add_both(walk, left, false, right, true, next, place)
     } else {
         add_both(
-            alloc,
-            blocks,
-            clause,
+            walk,
             right,
             false,
             left,
@@ -271,28 +282,25 @@ fn add_equivalence(
 /// Adds a list of the negation of an equivalence.
 #[cycle(walk)]
 fn add_difference(
-    alloc: Global,
-    blocks: &mut Items<Block>,
-    clause: &mut Clause,
+    walk: &mut Walk,
     left: &Formula,
     right: &Formula,
     next: u32,
     place: u32,
 ) -> Result<(), Stop>
     requires can { CanAdd (difference left.now right.now) next place }
-    requires left { AreFresh blocks.now (bindings left.now) }
-    requires right { AreFresh blocks.now (bindings right.now) }
-    ensures added { OnOk result (clause.new ≡ with_chosen clause.old (difference left.now right.now) blocks.old next place) }
-    ensures kept { OnOk result (blocks.new ≡ blocks.old) }
+    requires left { AreFresh walk.now.blocks (bindings left.now) }
+    requires right { AreFresh walk.now.blocks (bindings right.now) }
+    ensures added { OnOk result (walk.new.clause ≡ with_chosen walk.old.clause
+        (difference left.now right.now) walk.old.blocks next place) }
+    ensures kept { OnOk result (walk.new.blocks ≡ walk.old.blocks) }
 {
     let first = count_either(left, true, right, true);
     if place < first.clauses {
-        add_both(alloc, blocks, clause, left, true, right, true, next, place)
+        add_both(walk, left, true, right, true, next, place)
     } else {
         add_both(
-            alloc,
-            blocks,
-            clause,
+            walk,
             left,
             false,
             right,
@@ -306,9 +314,7 @@ fn add_difference(
 /// Adds a list of a formula for each value of a block's variables.
 #[cycle(walk)]
 fn add_universal(
-    alloc: Global,
-    blocks: &mut Items<Block>,
-    clause: &mut Clause,
+    walk: &mut Walk,
     first: u32,
     count: u32,
     part: &Formula,
@@ -317,22 +323,21 @@ fn add_universal(
     place: u32,
 ) -> Result<(), Stop>
     requires can { CanAdd (for_each first count (signed_form part.now sign)) next place }
-    requires fresh { AreFresh blocks.now (numbers_from first count ++ bindings part.now) }
-    ensures added { OnOk result (clause.new ≡ with_chosen clause.old (for_each first count (signed_form part.now sign)) blocks.old next place) }
-    ensures kept { OnOk result (blocks.new ≡ blocks.old) }
+    requires fresh { AreFresh walk.now.blocks (numbers_from first count ++ bindings part.now) }
+    ensures added { OnOk result (walk.new.clause ≡ with_chosen walk.old.clause
+        (for_each first count (signed_form part.now sign)) walk.old.blocks next place) }
+    ensures kept { OnOk result (walk.new.blocks ≡ walk.old.blocks) }
 {
-    push_universal(alloc, blocks, first, count)?;
-    add(alloc, blocks, clause, part, sign, next, place)?;
-    blocks.pop();
+    push_universal(walk, first, count)?;
+    add(walk, part, sign, next, place)?;
+    walk.blocks.pop();
     Ok(())
 }
 
 /// Adds a list of a formula for some value of a block's variables.
 #[cycle(walk)]
 fn add_existential(
-    alloc: Global,
-    blocks: &mut Items<Block>,
-    clause: &mut Clause,
+    walk: &mut Walk,
     first: u32,
     count: u32,
     part: &Formula,
@@ -341,38 +346,38 @@ fn add_existential(
     place: u32,
 ) -> Result<(), Stop>
     requires can { CanAdd (for_any first count (signed_form part.now sign)) next place }
-    requires fresh { AreFresh blocks.now (numbers_from first count ++ bindings part.now) }
-    ensures added { OnOk result (clause.new ≡ with_chosen clause.old (for_any first count (signed_form part.now sign)) blocks.old next place) }
-    ensures kept { OnOk result (blocks.new ≡ blocks.old) }
+    requires fresh { AreFresh walk.now.blocks (numbers_from first count ++ bindings part.now) }
+    ensures added { OnOk result (walk.new.clause ≡ with_chosen walk.old.clause
+        (for_any first count (signed_form part.now sign)) walk.old.blocks next place) }
+    ensures kept { OnOk result (walk.new.blocks ≡ walk.old.blocks) }
 {
-    push_existential(alloc, blocks, first, count, part, next)?;
-    add(alloc, blocks, clause, part, sign, next + count, place)?;
-    blocks.pop();
+    push_existential(walk, first, count, part, next)?;
+    add(walk, part, sign, next + count, place)?;
+    walk.blocks.pop();
     Ok(())
 }
 
 /// Adds a list of one of several formulas that all hold.
 #[cycle(walk)]
 fn add_in_one(
-    alloc: Global,
-    blocks: &mut Items<Block>,
-    clause: &mut Clause,
+    walk: &mut Walk,
     parts: &[Formula],
     sign: bool,
     next: u32,
     place: u32,
 ) -> Result<(), Stop>
     requires can { CanAdd (all_of sign parts.now) next place }
-    requires fresh { AreFresh blocks.now (flat_map bindings parts.now) }
-    ensures added { OnOk result (clause.new ≡ with_chosen clause.old (all_of sign parts.now) blocks.old next place) }
-    ensures kept { OnOk result (blocks.new ≡ blocks.old) }
+    requires fresh { AreFresh walk.now.blocks (flat_map bindings parts.now) }
+    ensures added { OnOk result (walk.new.clause ≡ with_chosen walk.old.clause
+        (all_of sign parts.now) walk.old.blocks next place) }
+    ensures kept { OnOk result (walk.new.blocks ≡ walk.old.blocks) }
 {
     let mut next = next;
     let mut place = place;
     for part in parts {
         let count = count(part, sign);
         if place < count.clauses {
-            return add(alloc, blocks, clause, part, sign, next, place);
+            return add(walk, part, sign, next, place);
         }
         place -= count.clauses;
         next += count.skolems;
@@ -383,20 +388,19 @@ fn add_in_one(
 /// Adds a list of each of several formulas of which one holds; rest is how many lists they give.
 #[cycle(walk)]
 fn add_in_each(
-    alloc: Global,
-    blocks: &mut Items<Block>,
-    clause: &mut Clause,
+    walk: &mut Walk,
     parts: &[Formula],
     sign: bool,
     next: u32,
     place: u32,
     rest: u32,
 ) -> Result<(), Stop>
-    requires can { CanAdd (some_of sign parts.now) next place }
-    requires exact { rest ≡ clause_count (some_of sign parts.now) }
-    requires fresh { AreFresh blocks.now (flat_map bindings parts.now) }
-    ensures added { OnOk result (clause.new ≡ with_chosen clause.old (some_of sign parts.now) blocks.old next place) }
-    ensures kept { OnOk result (blocks.new ≡ blocks.old) }
+    requires can { CanAdd (some_hold sign parts.now) next place }
+    requires exact { rest ≡ clause_count (some_hold sign parts.now) }
+    requires fresh { AreFresh walk.now.blocks (flat_map bindings parts.now) }
+    ensures added { OnOk result (walk.new.clause ≡ with_chosen walk.old.clause
+        (some_hold sign parts.now) walk.old.blocks next place) }
+    ensures kept { OnOk result (walk.new.blocks ≡ walk.old.blocks) }
 {
     let mut next = next;
     let mut place = place;
@@ -404,7 +408,7 @@ fn add_in_each(
     for part in parts {
         let count = count(part, sign);
         rest /= count.clauses;
-        add(alloc, blocks, clause, part, sign, next, place / rest)?;
+        add(walk, part, sign, next, place / rest)?;
         place %= rest;
         next += count.skolems;
     }

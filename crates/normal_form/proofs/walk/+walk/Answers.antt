@@ -17,51 +17,207 @@ use Rattle.normal_form.proofs.Found.{can_find, here, next_found, popped, can_tak
 use Rattle.normal_form.proofs.Several.{all_chosen, some_chosen}
 use Rattle.normal_form.proofs.walk.+walk.Goals as goal
 
-pub add-add-requires : goal.add-add-requires
-add-add-requires t c = (
+pub add_positive-returns-in-True-clause-added : goal.add_positive-returns-in-True-clause-added
+add_positive-returns-in-True-clause-added t c =
+    sym (ap (λ f. gathered c.args.walk.now.clause (literals_chosen f (place_below c.args.walk.now.blocks c.args.next) c.args.place)) (ap (λ u. signed_form u true) c.in-True.ensures.shown ∙ form-True true))
+
+pub add_positive-returns-in-False-clause-added : goal.add_positive-returns-in-False-clause-added
+add_positive-returns-in-False-clause-added t c =
+    sym (ap (λ f. gathered c.args.walk.now.clause (literals_chosen f (place_below c.args.walk.now.blocks c.args.next) c.args.place)) (ap (λ u. signed_form u true) c.in-False.ensures.shown ∙ form-False true))
+
+pub add_positive-returns-in-Atom-clause-added : goal.add_positive-returns-in-Atom-clause-added
+add_positive-returns-in-Atom-clause-added t c =
+    subst (λ f. OnOk c.add_atom.result (c.add_atom.new.walk.clause ≡ gathered c.args.walk.now.clause (literals_chosen f (place_below c.args.walk.now.blocks c.args.next) c.args.place)))
+    (sym (ap (λ u. signed_form u true) c.in-Atom.ensures.shown ∙ form-Atom c.in-Atom.atom.now true)) c.add_atom.ensures.added
+
+pub add_positive-add_negative-requires : goal.add_positive-add_negative-requires
+add_positive-add_negative-requires t c = (
   omega (arith, c.decreases, c.in-Not.ensures.smaller),
-  (subst (λ f. CanAdd f c.args.next c.args.place) (ap (λ u. signed_form u c.args.sign) c.in-Not.ensures.shown ∙ form-Not c.in-Not.part.now c.args.sign) c.requires.can, subst (AreFresh c.args.blocks.now) (ap bindings c.in-Not.ensures.shown ∙ bindings-Not c.in-Not.part.now) c.requires.fresh),
+  (subst (λ f. CanAdd f c.args.next c.args.place) (ap (λ u. signed_form u true) c.in-Not.ensures.shown ∙ form-Not c.in-Not.part.now true) c.requires.can, subst (AreFresh c.args.walk.now.blocks) (ap bindings c.in-Not.ensures.shown ∙ bindings-Not c.in-Not.part.now) c.requires.fresh),
 )
 
-pub add-add_both-requires : goal.add-add_both-requires
-add-add_both-requires t c = (
+pub add_positive-returns-in-Not-clause-added : goal.add_positive-returns-in-Not-clause-added
+add_positive-returns-in-Not-clause-added t c =
+    subst (λ f. OnOk c.add_negative.result (c.add_negative.new.walk.clause ≡ gathered c.args.walk.now.clause (literals_chosen f (place_below c.args.walk.now.blocks c.args.next) c.args.place)))
+    (sym (ap (λ u. signed_form u true) c.in-Not.ensures.shown ∙ form-Not c.in-Not.part.now true)) c.add_negative.ensures.added
+
+pub add_positive-add_both-requires : goal.add_positive-add_both-requires
+add_positive-add_both-requires t c = (
   omega (arith, c.decreases, c.in-Implies.ensures.smaller),
-  (subst (λ f. CanAdd f c.args.next c.args.place) ((λ i. signed_form (c.in-Implies.ensures.shown i) (c.if-sign.true i)) ∙ form-Implies c.in-Implies.left.now c.in-Implies.right.now) c.requires.can, (fresh_left c.args.blocks.now (bindings c.in-Implies.left.now) (bindings c.in-Implies.right.now) (subst (AreFresh c.args.blocks.now) (ap bindings c.in-Implies.ensures.shown ∙ bindings-Implies c.in-Implies.left.now c.in-Implies.right.now) c.requires.fresh), fresh_right c.args.blocks.now (bindings c.in-Implies.left.now) (bindings c.in-Implies.right.now) (subst (AreFresh c.args.blocks.now) (ap bindings c.in-Implies.ensures.shown ∙ bindings-Implies c.in-Implies.left.now c.in-Implies.right.now) c.requires.fresh))),
+  (subst (λ f. CanAdd f c.args.next c.args.place) (ap (λ u. signed_form u true) c.in-Implies.ensures.shown ∙ form-Implies c.in-Implies.left.now c.in-Implies.right.now) c.requires.can, (fresh_left c.args.walk.now.blocks (bindings c.in-Implies.left.now) (bindings c.in-Implies.right.now) (subst (AreFresh c.args.walk.now.blocks) (ap bindings c.in-Implies.ensures.shown ∙ bindings-Implies c.in-Implies.left.now c.in-Implies.right.now) c.requires.fresh), fresh_right c.args.walk.now.blocks (bindings c.in-Implies.left.now) (bindings c.in-Implies.right.now) (subst (AreFresh c.args.walk.now.blocks) (ap bindings c.in-Implies.ensures.shown ∙ bindings-Implies c.in-Implies.left.now c.in-Implies.right.now) c.requires.fresh))),
 )
 
-pub add-add_one-requires : goal.add-add_one-requires
-add-add_one-requires t c = (
+pub add_positive-returns-in-Implies-clause-added : goal.add_positive-returns-in-Implies-clause-added
+add_positive-returns-in-Implies-clause-added t c =
+    subst (λ f. OnOk c.add_both.result (c.add_both.new.walk.clause ≡ gathered c.args.walk.now.clause (literals_chosen f (place_below c.args.walk.now.blocks c.args.next) c.args.place)))
+    (sym (ap (λ u. signed_form u true) c.in-Implies.ensures.shown ∙ form-Implies c.in-Implies.left.now c.in-Implies.right.now)) c.add_both.ensures.added
+
+pub add_positive-add_in_one-requires : goal.add_positive-add_in_one-requires
+add_positive-add_in_one-requires t c = (
+  omega (arith, c.decreases, c.in-And.ensures.smaller),
+  (subst (λ f. CanAdd f c.args.next c.args.place) (ap (λ u. signed_form u true) c.in-And.ensures.shown ∙ form-And c.in-And.parts.now true) c.requires.can, subst (AreFresh c.args.walk.now.blocks) (ap bindings c.in-And.ensures.shown ∙ bindings-And c.in-And.parts.now) c.requires.fresh),
+)
+
+pub add_positive-returns-in-And-clause-added : goal.add_positive-returns-in-And-clause-added
+add_positive-returns-in-And-clause-added t c =
+    subst (λ f. OnOk c.add_in_one.result (c.add_in_one.new.walk.clause ≡ gathered c.args.walk.now.clause (literals_chosen f (place_below c.args.walk.now.blocks c.args.next) c.args.place)))
+    (sym (ap (λ u. signed_form u true) c.in-And.ensures.shown ∙ form-And c.in-And.parts.now true)) c.add_in_one.ensures.added
+
+pub add_positive-add_in_each-requires : goal.add_positive-add_in_each-requires
+add_positive-add_in_each-requires t c = (
+  omega (arith, c.decreases, c.in-Or.ensures.smaller),
+  (
+    subst (λ f. CanAdd f c.args.next c.args.place) (ap (λ u. signed_form u true) c.in-Or.ensures.shown ∙ form-Or c.in-Or.parts.now true) c.requires.can,
+    (ap (λ x. x.clauses) c.count-rest.ensures ∙ exact_clauses (signed_form c.args.formula.now true) c.requires.can.few ∙ ap clause_count (ap (λ u. signed_form u true) c.in-Or.ensures.shown ∙ form-Or c.in-Or.parts.now true), subst (AreFresh c.args.walk.now.blocks) (ap bindings c.in-Or.ensures.shown ∙ bindings-Or c.in-Or.parts.now) c.requires.fresh),
+  ),
+)
+
+pub add_positive-returns-in-Or-clause-added : goal.add_positive-returns-in-Or-clause-added
+add_positive-returns-in-Or-clause-added t c =
+    subst (λ f. OnOk c.add_in_each.result (c.add_in_each.new.walk.clause ≡ gathered c.args.walk.now.clause (literals_chosen f (place_below c.args.walk.now.blocks c.args.next) c.args.place)))
+    (sym (ap (λ u. signed_form u true) c.in-Or.ensures.shown ∙ form-Or c.in-Or.parts.now true)) c.add_in_each.ensures.added
+
+pub add_positive-add_equivalence-requires : goal.add_positive-add_equivalence-requires
+add_positive-add_equivalence-requires t c = (
+  omega (arith, c.decreases, c.in-Equiv.ensures.smaller),
+  (subst (λ f. CanAdd f c.args.next c.args.place) (ap (λ u. signed_form u true) c.in-Equiv.ensures.shown ∙ form-Equiv c.in-Equiv.left.now c.in-Equiv.right.now) c.requires.can, (fresh_left c.args.walk.now.blocks (bindings c.in-Equiv.left.now) (bindings c.in-Equiv.right.now) (subst (AreFresh c.args.walk.now.blocks) (ap bindings c.in-Equiv.ensures.shown ∙ bindings-Equiv c.in-Equiv.left.now c.in-Equiv.right.now) c.requires.fresh), fresh_right c.args.walk.now.blocks (bindings c.in-Equiv.left.now) (bindings c.in-Equiv.right.now) (subst (AreFresh c.args.walk.now.blocks) (ap bindings c.in-Equiv.ensures.shown ∙ bindings-Equiv c.in-Equiv.left.now c.in-Equiv.right.now) c.requires.fresh))),
+)
+
+pub add_positive-returns-in-Equiv-clause-added : goal.add_positive-returns-in-Equiv-clause-added
+add_positive-returns-in-Equiv-clause-added t c =
+    subst (λ f. OnOk c.add_equivalence.result (c.add_equivalence.new.walk.clause ≡ gathered c.args.walk.now.clause (literals_chosen f (place_below c.args.walk.now.blocks c.args.next) c.args.place)))
+    (sym (ap (λ u. signed_form u true) c.in-Equiv.ensures.shown ∙ form-Equiv c.in-Equiv.left.now c.in-Equiv.right.now)) c.add_equivalence.ensures.added
+
+pub add_positive-add_universal-requires : goal.add_positive-add_universal-requires
+add_positive-add_universal-requires t c = (
+  omega (arith, c.decreases, c.in-Forall.ensures.smaller),
+  (subst (λ f. CanAdd f c.args.next c.args.place) (ap (λ u. signed_form u true) c.in-Forall.ensures.shown ∙ form-foralls c.in-Forall.first c.in-Forall.count c.in-Forall.part.now) c.requires.can, subst (AreFresh c.args.walk.now.blocks) (ap bindings c.in-Forall.ensures.shown ∙ bindings-foralls c.in-Forall.first c.in-Forall.count c.in-Forall.part.now) c.requires.fresh),
+)
+
+pub add_positive-returns-in-Forall-clause-added : goal.add_positive-returns-in-Forall-clause-added
+add_positive-returns-in-Forall-clause-added t c =
+    subst (λ f. OnOk c.add_universal.result (c.add_universal.new.walk.clause ≡ gathered c.args.walk.now.clause (literals_chosen f (place_below c.args.walk.now.blocks c.args.next) c.args.place)))
+    (sym (ap (λ u. signed_form u true) c.in-Forall.ensures.shown ∙ form-foralls c.in-Forall.first c.in-Forall.count c.in-Forall.part.now)) c.add_universal.ensures.added
+
+pub add_positive-add_existential-requires : goal.add_positive-add_existential-requires
+add_positive-add_existential-requires t c = (
+  omega (arith, c.decreases, c.in-Exists.ensures.smaller),
+  (subst (λ f. CanAdd f c.args.next c.args.place) (ap (λ u. signed_form u true) c.in-Exists.ensures.shown ∙ form-exists c.in-Exists.first c.in-Exists.count c.in-Exists.part.now) c.requires.can, subst (AreFresh c.args.walk.now.blocks) (ap bindings c.in-Exists.ensures.shown ∙ bindings-exists c.in-Exists.first c.in-Exists.count c.in-Exists.part.now) c.requires.fresh),
+)
+
+pub add_positive-returns-in-Exists-clause-added : goal.add_positive-returns-in-Exists-clause-added
+add_positive-returns-in-Exists-clause-added t c =
+    subst (λ f. OnOk c.add_existential.result (c.add_existential.new.walk.clause ≡ gathered c.args.walk.now.clause (literals_chosen f (place_below c.args.walk.now.blocks c.args.next) c.args.place)))
+    (sym (ap (λ u. signed_form u true) c.in-Exists.ensures.shown ∙ form-exists c.in-Exists.first c.in-Exists.count c.in-Exists.part.now)) c.add_existential.ensures.added
+
+pub add_negative-returns-in-True-clause-added : goal.add_negative-returns-in-True-clause-added
+add_negative-returns-in-True-clause-added t c =
+    sym (ap (λ f. gathered c.args.walk.now.clause (literals_chosen f (place_below c.args.walk.now.blocks c.args.next) c.args.place)) (ap (λ u. signed_form u false) c.in-True.ensures.shown ∙ form-True false))
+
+pub add_negative-returns-in-False-clause-added : goal.add_negative-returns-in-False-clause-added
+add_negative-returns-in-False-clause-added t c =
+    sym (ap (λ f. gathered c.args.walk.now.clause (literals_chosen f (place_below c.args.walk.now.blocks c.args.next) c.args.place)) (ap (λ u. signed_form u false) c.in-False.ensures.shown ∙ form-False false))
+
+pub add_negative-returns-in-Atom-clause-added : goal.add_negative-returns-in-Atom-clause-added
+add_negative-returns-in-Atom-clause-added t c =
+    subst (λ f. OnOk c.add_atom.result (c.add_atom.new.walk.clause ≡ gathered c.args.walk.now.clause (literals_chosen f (place_below c.args.walk.now.blocks c.args.next) c.args.place)))
+    (sym (ap (λ u. signed_form u false) c.in-Atom.ensures.shown ∙ form-Atom c.in-Atom.atom.now false)) c.add_atom.ensures.added
+
+pub add_negative-add_positive-requires : goal.add_negative-add_positive-requires
+add_negative-add_positive-requires t c = (
+  omega (arith, c.decreases, c.in-Not.ensures.smaller),
+  (subst (λ f. CanAdd f c.args.next c.args.place) (ap (λ u. signed_form u false) c.in-Not.ensures.shown ∙ form-Not c.in-Not.part.now false) c.requires.can, subst (AreFresh c.args.walk.now.blocks) (ap bindings c.in-Not.ensures.shown ∙ bindings-Not c.in-Not.part.now) c.requires.fresh),
+)
+
+pub add_negative-returns-in-Not-clause-added : goal.add_negative-returns-in-Not-clause-added
+add_negative-returns-in-Not-clause-added t c =
+    subst (λ f. OnOk c.add_positive.result (c.add_positive.new.walk.clause ≡ gathered c.args.walk.now.clause (literals_chosen f (place_below c.args.walk.now.blocks c.args.next) c.args.place)))
+    (sym (ap (λ u. signed_form u false) c.in-Not.ensures.shown ∙ form-Not c.in-Not.part.now false)) c.add_positive.ensures.added
+
+pub add_negative-add_one-requires : goal.add_negative-add_one-requires
+add_negative-add_one-requires t c = (
   omega (arith, c.decreases, c.in-Implies.ensures.smaller),
-  (subst (λ f. CanAdd f c.args.next c.args.place) ((λ i. signed_form (c.in-Implies.ensures.shown i) (c.if-sign.false i)) ∙ form-not_Implies c.in-Implies.left.now c.in-Implies.right.now) c.requires.can, (fresh_left c.args.blocks.now (bindings c.in-Implies.left.now) (bindings c.in-Implies.right.now) (subst (AreFresh c.args.blocks.now) (ap bindings c.in-Implies.ensures.shown ∙ bindings-Implies c.in-Implies.left.now c.in-Implies.right.now) c.requires.fresh), fresh_right c.args.blocks.now (bindings c.in-Implies.left.now) (bindings c.in-Implies.right.now) (subst (AreFresh c.args.blocks.now) (ap bindings c.in-Implies.ensures.shown ∙ bindings-Implies c.in-Implies.left.now c.in-Implies.right.now) c.requires.fresh))),
+  (subst (λ f. CanAdd f c.args.next c.args.place) (ap (λ u. signed_form u false) c.in-Implies.ensures.shown ∙ form-not_Implies c.in-Implies.left.now c.in-Implies.right.now) c.requires.can, (fresh_left c.args.walk.now.blocks (bindings c.in-Implies.left.now) (bindings c.in-Implies.right.now) (subst (AreFresh c.args.walk.now.blocks) (ap bindings c.in-Implies.ensures.shown ∙ bindings-Implies c.in-Implies.left.now c.in-Implies.right.now) c.requires.fresh), fresh_right c.args.walk.now.blocks (bindings c.in-Implies.left.now) (bindings c.in-Implies.right.now) (subst (AreFresh c.args.walk.now.blocks) (ap bindings c.in-Implies.ensures.shown ∙ bindings-Implies c.in-Implies.left.now c.in-Implies.right.now) c.requires.fresh))),
 )
 
-pub add-returns-in-True-clause-added : goal.add-returns-in-True-clause-added
-add-returns-in-True-clause-added t c =
-    sym (ap (λ f. gathered c.args.clause.now (literals_chosen f (place_below c.args.blocks.now c.args.next) c.args.place)) (ap (λ u. signed_form u c.args.sign) c.in-True.ensures.shown ∙ form-True c.args.sign))
+pub add_negative-returns-in-Implies-clause-added : goal.add_negative-returns-in-Implies-clause-added
+add_negative-returns-in-Implies-clause-added t c =
+    subst (λ f. OnOk c.add_one.result (c.add_one.new.walk.clause ≡ gathered c.args.walk.now.clause (literals_chosen f (place_below c.args.walk.now.blocks c.args.next) c.args.place)))
+    (sym (ap (λ u. signed_form u false) c.in-Implies.ensures.shown ∙ form-not_Implies c.in-Implies.left.now c.in-Implies.right.now)) c.add_one.ensures.added
 
-pub add-returns-in-False-clause-added : goal.add-returns-in-False-clause-added
-add-returns-in-False-clause-added t c =
-    sym (ap (λ f. gathered c.args.clause.now (literals_chosen f (place_below c.args.blocks.now c.args.next) c.args.place)) (ap (λ u. signed_form u c.args.sign) c.in-False.ensures.shown ∙ form-False c.args.sign))
+pub add_negative-add_in_each-requires : goal.add_negative-add_in_each-requires
+add_negative-add_in_each-requires t c = (
+  omega (arith, c.decreases, c.in-And.ensures.smaller),
+  (
+    subst (λ f. CanAdd f c.args.next c.args.place) (ap (λ u. signed_form u false) c.in-And.ensures.shown ∙ form-And c.in-And.parts.now false) c.requires.can,
+    (ap (λ x. x.clauses) c.count-rest.ensures ∙ exact_clauses (signed_form c.args.formula.now false) c.requires.can.few ∙ ap clause_count (ap (λ u. signed_form u false) c.in-And.ensures.shown ∙ form-And c.in-And.parts.now false), subst (AreFresh c.args.walk.now.blocks) (ap bindings c.in-And.ensures.shown ∙ bindings-And c.in-And.parts.now) c.requires.fresh),
+  ),
+)
 
-pub add-returns-in-Atom-clause-added : goal.add-returns-in-Atom-clause-added
-add-returns-in-Atom-clause-added t c =
-    subst (λ f. OnOk c.add_atom.result (c.add_atom.new.clause ≡ gathered c.args.clause.now (literals_chosen f (place_below c.args.blocks.now c.args.next) c.args.place)))
-    (sym (ap (λ u. signed_form u c.args.sign) c.in-Atom.ensures.shown ∙ form-Atom c.in-Atom.atom.now c.args.sign)) c.add_atom.ensures
+pub add_negative-returns-in-And-clause-added : goal.add_negative-returns-in-And-clause-added
+add_negative-returns-in-And-clause-added t c =
+    subst (λ f. OnOk c.add_in_each.result (c.add_in_each.new.walk.clause ≡ gathered c.args.walk.now.clause (literals_chosen f (place_below c.args.walk.now.blocks c.args.next) c.args.place)))
+    (sym (ap (λ u. signed_form u false) c.in-And.ensures.shown ∙ form-And c.in-And.parts.now false)) c.add_in_each.ensures.added
 
-pub add-returns-in-Not-clause-added : goal.add-returns-in-Not-clause-added
-add-returns-in-Not-clause-added t c =
-    subst (λ f. OnOk c.add.result (c.add.new.clause ≡ gathered c.args.clause.now (literals_chosen f (place_below c.args.blocks.now c.args.next) c.args.place)))
-    (sym (ap (λ u. signed_form u c.args.sign) c.in-Not.ensures.shown ∙ form-Not c.in-Not.part.now c.args.sign)) c.add.ensures.added
+pub add_negative-add_in_one-requires : goal.add_negative-add_in_one-requires
+add_negative-add_in_one-requires t c = (
+  omega (arith, c.decreases, c.in-Or.ensures.smaller),
+  (subst (λ f. CanAdd f c.args.next c.args.place) (ap (λ u. signed_form u false) c.in-Or.ensures.shown ∙ form-Or c.in-Or.parts.now false) c.requires.can, subst (AreFresh c.args.walk.now.blocks) (ap bindings c.in-Or.ensures.shown ∙ bindings-Or c.in-Or.parts.now) c.requires.fresh),
+)
+
+pub add_negative-returns-in-Or-clause-added : goal.add_negative-returns-in-Or-clause-added
+add_negative-returns-in-Or-clause-added t c =
+    subst (λ f. OnOk c.add_in_one.result (c.add_in_one.new.walk.clause ≡ gathered c.args.walk.now.clause (literals_chosen f (place_below c.args.walk.now.blocks c.args.next) c.args.place)))
+    (sym (ap (λ u. signed_form u false) c.in-Or.ensures.shown ∙ form-Or c.in-Or.parts.now false)) c.add_in_one.ensures.added
+
+pub add_negative-add_difference-requires : goal.add_negative-add_difference-requires
+add_negative-add_difference-requires t c = (
+  omega (arith, c.decreases, c.in-Equiv.ensures.smaller),
+  (subst (λ f. CanAdd f c.args.next c.args.place) (ap (λ u. signed_form u false) c.in-Equiv.ensures.shown ∙ form-not_Equiv c.in-Equiv.left.now c.in-Equiv.right.now) c.requires.can, (fresh_left c.args.walk.now.blocks (bindings c.in-Equiv.left.now) (bindings c.in-Equiv.right.now) (subst (AreFresh c.args.walk.now.blocks) (ap bindings c.in-Equiv.ensures.shown ∙ bindings-Equiv c.in-Equiv.left.now c.in-Equiv.right.now) c.requires.fresh), fresh_right c.args.walk.now.blocks (bindings c.in-Equiv.left.now) (bindings c.in-Equiv.right.now) (subst (AreFresh c.args.walk.now.blocks) (ap bindings c.in-Equiv.ensures.shown ∙ bindings-Equiv c.in-Equiv.left.now c.in-Equiv.right.now) c.requires.fresh))),
+)
+
+pub add_negative-returns-in-Equiv-clause-added : goal.add_negative-returns-in-Equiv-clause-added
+add_negative-returns-in-Equiv-clause-added t c =
+    subst (λ f. OnOk c.add_difference.result (c.add_difference.new.walk.clause ≡ gathered c.args.walk.now.clause (literals_chosen f (place_below c.args.walk.now.blocks c.args.next) c.args.place)))
+    (sym (ap (λ u. signed_form u false) c.in-Equiv.ensures.shown ∙ form-not_Equiv c.in-Equiv.left.now c.in-Equiv.right.now)) c.add_difference.ensures.added
+
+pub add_negative-add_existential-requires : goal.add_negative-add_existential-requires
+add_negative-add_existential-requires t c = (
+  omega (arith, c.decreases, c.in-Forall.ensures.smaller),
+  (subst (λ f. CanAdd f c.args.next c.args.place) (ap (λ u. signed_form u false) c.in-Forall.ensures.shown ∙ form-not_foralls c.in-Forall.first c.in-Forall.count c.in-Forall.part.now) c.requires.can, subst (AreFresh c.args.walk.now.blocks) (ap bindings c.in-Forall.ensures.shown ∙ bindings-foralls c.in-Forall.first c.in-Forall.count c.in-Forall.part.now) c.requires.fresh),
+)
+
+pub add_negative-returns-in-Forall-clause-added : goal.add_negative-returns-in-Forall-clause-added
+add_negative-returns-in-Forall-clause-added t c =
+    subst (λ f. OnOk c.add_existential.result (c.add_existential.new.walk.clause ≡ gathered c.args.walk.now.clause (literals_chosen f (place_below c.args.walk.now.blocks c.args.next) c.args.place)))
+    (sym (ap (λ u. signed_form u false) c.in-Forall.ensures.shown ∙ form-not_foralls c.in-Forall.first c.in-Forall.count c.in-Forall.part.now)) c.add_existential.ensures.added
+
+pub add_negative-add_universal-requires : goal.add_negative-add_universal-requires
+add_negative-add_universal-requires t c = (
+  omega (arith, c.decreases, c.in-Exists.ensures.smaller),
+  (subst (λ f. CanAdd f c.args.next c.args.place) (ap (λ u. signed_form u false) c.in-Exists.ensures.shown ∙ form-not_exists c.in-Exists.first c.in-Exists.count c.in-Exists.part.now) c.requires.can, subst (AreFresh c.args.walk.now.blocks) (ap bindings c.in-Exists.ensures.shown ∙ bindings-exists c.in-Exists.first c.in-Exists.count c.in-Exists.part.now) c.requires.fresh),
+)
+
+pub add_negative-returns-in-Exists-clause-added : goal.add_negative-returns-in-Exists-clause-added
+add_negative-returns-in-Exists-clause-added t c =
+    subst (λ f. OnOk c.add_universal.result (c.add_universal.new.walk.clause ≡ gathered c.args.walk.now.clause (literals_chosen f (place_below c.args.walk.now.blocks c.args.next) c.args.place)))
+    (sym (ap (λ u. signed_form u false) c.in-Exists.ensures.shown ∙ form-not_exists c.in-Exists.first c.in-Exists.count c.in-Exists.part.now)) c.add_universal.ensures.added
+
+pub add-add_positive-requires : goal.add-add_positive-requires
+add-add_positive-requires t c = (omega (arith, c.decreases), (subst (λ b. CanAdd (signed_form c.args.formula.now b) c.args.next c.args.place) c.if-sign.true c.requires.can, c.requires.fresh))
 
 pub add-returns-then-sign-clause-added : goal.add-returns-then-sign-clause-added
 add-returns-then-sign-clause-added t c =
-    subst (λ f. OnOk c.add_both.result (c.add_both.new.clause ≡ gathered c.args.clause.now (literals_chosen f (place_below c.args.blocks.now c.args.next) c.args.place)))
-    (sym ((λ i. signed_form (c.in-Implies.ensures.shown i) (c.if-sign.true i)) ∙ form-Implies c.in-Implies.left.now c.in-Implies.right.now)) c.add_both.ensures.added
+    subst (λ b. OnOk c.add_positive.result (c.add_positive.new.walk.clause ≡ gathered c.args.walk.now.clause (literals_chosen (signed_form c.args.formula.now b) (place_below c.args.walk.now.blocks c.args.next) c.args.place)))
+    (sym c.if-sign.true) c.add_positive.ensures.added
+
+pub add-add_negative-requires : goal.add-add_negative-requires
+add-add_negative-requires t c = (omega (arith, c.decreases), (subst (λ b. CanAdd (signed_form c.args.formula.now b) c.args.next c.args.place) c.if-sign.false c.requires.can, c.requires.fresh))
 
 pub add-returns-else-sign-clause-added : goal.add-returns-else-sign-clause-added
 add-returns-else-sign-clause-added t c =
-    subst (λ f. OnOk c.add_one.result (c.add_one.new.clause ≡ gathered c.args.clause.now (literals_chosen f (place_below c.args.blocks.now c.args.next) c.args.place)))
-    (sym ((λ i. signed_form (c.in-Implies.ensures.shown i) (c.if-sign.false i)) ∙ form-not_Implies c.in-Implies.left.now c.in-Implies.right.now)) c.add_one.ensures.added
+    subst (λ b. OnOk c.add_negative.result (c.add_negative.new.walk.clause ≡ gathered c.args.walk.now.clause (literals_chosen (signed_form c.args.formula.now b) (place_below c.args.walk.now.blocks c.args.next) c.args.place)))
+    (sym c.if-sign.false) c.add_negative.ensures.added
 
 pub add_both-add-requires : goal.add_both-add-requires
 add_both-add-requires t c =
@@ -78,56 +234,24 @@ add_both-add-requires-2 t c =
     let skolems : c.count-skolems.result.skolems ≡ existentials f = ap (λ x. x.skolems) c.count-skolems.ensures ∙ exact_skolems f (let room = (can_left f g c.args.next c.args.place c.requires.can).room in omega arith) in
     (omega (arith, c.decreases), (subst (λ n. CanAdd g (c.args.next + c.count-skolems.result.skolems) (c.args.place % n)) (sym rows) (subst (λ n. CanAdd g (c.args.next + n) (c.args.place % clause_count g)) (sym skolems) (can_right f g c.args.next c.args.place c.requires.can)), subst (λ bs. AreFresh bs (bindings c.args.right.now)) (sym c.in_ok-add.ensures.kept) c.requires.right)))
 
-pub add-add_equivalence-requires : goal.add-add_equivalence-requires
-add-add_equivalence-requires t c = (
-  omega (arith, c.decreases, c.in-Equiv.ensures.smaller),
-  (subst (λ f. CanAdd f c.args.next c.args.place) ((λ i. signed_form (c.in-Equiv.ensures.shown i) (c.if-sign-4.true i)) ∙ form-Equiv c.in-Equiv.left.now c.in-Equiv.right.now) c.requires.can, (fresh_left c.args.blocks.now (bindings c.in-Equiv.left.now) (bindings c.in-Equiv.right.now) (subst (AreFresh c.args.blocks.now) (ap bindings c.in-Equiv.ensures.shown ∙ bindings-Equiv c.in-Equiv.left.now c.in-Equiv.right.now) c.requires.fresh), fresh_right c.args.blocks.now (bindings c.in-Equiv.left.now) (bindings c.in-Equiv.right.now) (subst (AreFresh c.args.blocks.now) (ap bindings c.in-Equiv.ensures.shown ∙ bindings-Equiv c.in-Equiv.left.now c.in-Equiv.right.now) c.requires.fresh))),
-)
-
-pub add-add_difference-requires : goal.add-add_difference-requires
-add-add_difference-requires t c = (
-  omega (arith, c.decreases, c.in-Equiv.ensures.smaller),
-  (subst (λ f. CanAdd f c.args.next c.args.place) ((λ i. signed_form (c.in-Equiv.ensures.shown i) (c.if-sign-4.false i)) ∙ form-not_Equiv c.in-Equiv.left.now c.in-Equiv.right.now) c.requires.can, (fresh_left c.args.blocks.now (bindings c.in-Equiv.left.now) (bindings c.in-Equiv.right.now) (subst (AreFresh c.args.blocks.now) (ap bindings c.in-Equiv.ensures.shown ∙ bindings-Equiv c.in-Equiv.left.now c.in-Equiv.right.now) c.requires.fresh), fresh_right c.args.blocks.now (bindings c.in-Equiv.left.now) (bindings c.in-Equiv.right.now) (subst (AreFresh c.args.blocks.now) (ap bindings c.in-Equiv.ensures.shown ∙ bindings-Equiv c.in-Equiv.left.now c.in-Equiv.right.now) c.requires.fresh))),
-)
-
-pub add-add_universal-requires : goal.add-add_universal-requires
-add-add_universal-requires t c = (
-  omega (arith, c.decreases, c.in-Forall.ensures.smaller),
-  (subst (λ f. CanAdd f c.args.next c.args.place) ((λ i. signed_form (c.in-Forall.ensures.shown i) (c.if-sign-5.true i)) ∙ form-foralls c.in-Forall.first c.in-Forall.count c.in-Forall.part.now) c.requires.can, subst (AreFresh c.args.blocks.now) (ap bindings c.in-Forall.ensures.shown ∙ bindings-foralls c.in-Forall.first c.in-Forall.count c.in-Forall.part.now) c.requires.fresh),
-)
-
-pub add-returns-then-sign-4-clause-added : goal.add-returns-then-sign-4-clause-added
-add-returns-then-sign-4-clause-added t c =
-    subst (λ f. OnOk c.add_equivalence.result (c.add_equivalence.new.clause ≡ gathered c.args.clause.now (literals_chosen f (place_below c.args.blocks.now c.args.next) c.args.place)))
-    (sym ((λ i. signed_form (c.in-Equiv.ensures.shown i) (c.if-sign-4.true i)) ∙ form-Equiv c.in-Equiv.left.now c.in-Equiv.right.now)) c.add_equivalence.ensures.added
-
-pub add-returns-else-sign-4-clause-added : goal.add-returns-else-sign-4-clause-added
-add-returns-else-sign-4-clause-added t c =
-    subst (λ f. OnOk c.add_difference.result (c.add_difference.new.clause ≡ gathered c.args.clause.now (literals_chosen f (place_below c.args.blocks.now c.args.next) c.args.place)))
-    (sym ((λ i. signed_form (c.in-Equiv.ensures.shown i) (c.if-sign-4.false i)) ∙ form-not_Equiv c.in-Equiv.left.now c.in-Equiv.right.now)) c.add_difference.ensures.added
-
-pub add-returns-then-sign-5-clause-added : goal.add-returns-then-sign-5-clause-added
-add-returns-then-sign-5-clause-added t c =
-    subst (λ f. OnOk c.add_universal.result (c.add_universal.new.clause ≡ gathered c.args.clause.now (literals_chosen f (place_below c.args.blocks.now c.args.next) c.args.place)))
-    (sym ((λ i. signed_form (c.in-Forall.ensures.shown i) (c.if-sign-5.true i)) ∙ form-foralls c.in-Forall.first c.in-Forall.count c.in-Forall.part.now)) c.add_universal.ensures.added
-
 pub add_universal-add-requires : goal.add_universal-add-requires
 add_universal-add-requires t c =
     (let f : Form = signed_form c.args.part.now c.args.sign in
     let b : Block = universal_block c.args.first c.args.count in
-    let pushed : c.push_universal.new.blocks ≡ c.args.blocks.now ++ b ∷ [] = c.in_ok-push_universal.ensures in (
+    let pushed : c.push_universal.new.walk.blocks ≡ c.args.walk.now.blocks ++ b ∷ [] = c.in_ok-push_universal.ensures.pushed in (
       omega (arith, c.decreases),
-      (can_universal c.args.first c.args.count f c.args.next c.args.place c.requires.can, subst (λ bs. AreFresh bs (bindings c.args.part.now)) (sym pushed) (fresh_behind c.args.blocks.now b (bindings c.args.part.now) c.requires.fresh)),
+      (can_universal c.args.first c.args.count f c.args.next c.args.place c.requires.can, subst (λ bs. AreFresh bs (bindings c.args.part.now)) (sym pushed) (fresh_behind c.args.walk.now.blocks b (bindings c.args.part.now) c.requires.fresh)),
     ))
 
 pub add_universal-returns-clause-added : goal.add_universal-returns-clause-added
 add_universal-returns-clause-added t c =
     (let f : Form = signed_form c.args.part.now c.args.sign in
     let b : Block = universal_block c.args.first c.args.count in
-    let pushed : c.push_universal.new.blocks ≡ c.args.blocks.now ++ b ∷ [] = c.in_ok-push_universal.ensures in
+    let pushed : c.push_universal.new.walk.blocks ≡ c.args.walk.now.blocks ++ b ∷ [] = c.in_ok-push_universal.ensures.pushed in
     c.in_ok-add.ensures.added
-    ∙ ap (λ p. gathered c.args.clause.now (literals_chosen f p c.args.place)) (ap (λ bs. place_below bs c.args.next) pushed ∙ place-universal c.args.blocks.now c.args.first c.args.count c.args.next)
-    ∙ ap (gathered c.args.clause.now) (sym (chosen-for_each c.args.first c.args.count f (place_below c.args.blocks.now c.args.next) c.args.place)))
+    ∙ ap (λ d. gathered d (literals_chosen f (place_below c.push_universal.new.walk.blocks c.args.next) c.args.place)) c.push_universal.ensures.kept
+    ∙ ap (λ p. gathered c.args.walk.now.clause (literals_chosen f p c.args.place)) (ap (λ bs. place_below bs c.args.next) pushed ∙ place-universal c.args.walk.now.blocks c.args.first c.args.count c.args.next)
+    ∙ ap (gathered c.args.walk.now.clause) (sym (chosen-for_each c.args.first c.args.count f (place_below c.args.walk.now.blocks c.args.next) c.args.place)))
 
 pub add_existential-push_existential-requires-clause-room : goal.add_existential-push_existential-requires-clause-room
 add_existential-push_existential-requires-clause-room t c =
@@ -139,81 +263,27 @@ add_existential-overflow_add-next t c =
 
 pub add_existential-returns-clause-kept : goal.add_existential-returns-clause-kept
 add_existential-returns-clause-kept t c =
-    popped c.args.blocks.now c.pop.new.self c.add.new.blocks (existential_block c.args.first c.args.count (signed_form c.args.part.now c.args.sign) (place_below c.args.blocks.now c.args.next)) c.pop.result
-    (c.in_ok-add.ensures.kept ∙ c.in_ok-push_existential.ensures c.args.sign) c.pop.ensures
+    popped c.args.walk.now.blocks c.pop.new.self c.add.new.walk.blocks (existential_block c.args.first c.args.count (signed_form c.args.part.now c.args.sign) (place_below c.args.walk.now.blocks c.args.next)) c.pop.result
+    (c.in_ok-add.ensures.kept ∙ c.in_ok-push_existential.ensures.pushed c.args.sign) c.pop.ensures
 
 pub add_existential-add-requires : goal.add_existential-add-requires
 add_existential-add-requires t c =
     (let f : Form = signed_form c.args.part.now c.args.sign in
-    let b : Block = existential_block c.args.first c.args.count f (place_below c.args.blocks.now c.args.next) in
-    let pushed : c.push_existential.new.blocks ≡ c.args.blocks.now ++ b ∷ [] = c.in_ok-push_existential.ensures c.args.sign in (
+    let b : Block = existential_block c.args.first c.args.count f (place_below c.args.walk.now.blocks c.args.next) in
+    let pushed : c.push_existential.new.walk.blocks ≡ c.args.walk.now.blocks ++ b ∷ [] = c.in_ok-push_existential.ensures.pushed c.args.sign in (
       omega (arith, c.decreases),
-      (can_existential c.args.first c.args.count f c.args.next c.args.place c.requires.can, subst (λ bs. AreFresh bs (bindings c.args.part.now)) (sym pushed) (fresh_behind c.args.blocks.now b (bindings c.args.part.now) c.requires.fresh)),
+      (can_existential c.args.first c.args.count f c.args.next c.args.place c.requires.can, subst (λ bs. AreFresh bs (bindings c.args.part.now)) (sym pushed) (fresh_behind c.args.walk.now.blocks b (bindings c.args.part.now) c.requires.fresh)),
     ))
 
 pub add_existential-returns-clause-added : goal.add_existential-returns-clause-added
 add_existential-returns-clause-added t c =
     (let f : Form = signed_form c.args.part.now c.args.sign in
-    let b : Block = existential_block c.args.first c.args.count f (place_below c.args.blocks.now c.args.next) in
-    let pushed : c.push_existential.new.blocks ≡ c.args.blocks.now ++ b ∷ [] = c.in_ok-push_existential.ensures c.args.sign in
+    let b : Block = existential_block c.args.first c.args.count f (place_below c.args.walk.now.blocks c.args.next) in
+    let pushed : c.push_existential.new.walk.blocks ≡ c.args.walk.now.blocks ++ b ∷ [] = c.in_ok-push_existential.ensures.pushed c.args.sign in
     c.in_ok-add.ensures.added
-    ∙ ap (λ p. gathered c.args.clause.now (literals_chosen f p c.args.place)) (ap (λ bs. place_below bs (c.args.next + c.args.count)) pushed ∙ place-existential c.args.blocks.now c.args.first c.args.count c.args.next f)
-    ∙ ap (gathered c.args.clause.now) (sym (chosen-for_any c.args.first c.args.count f (place_below c.args.blocks.now c.args.next) c.args.place)))
-
-pub add-add_existential-requires : goal.add-add_existential-requires
-add-add_existential-requires t c = (
-  omega (arith, c.decreases, c.in-Forall.ensures.smaller),
-  (subst (λ f. CanAdd f c.args.next c.args.place) ((λ i. signed_form (c.in-Forall.ensures.shown i) (c.if-sign-5.false i)) ∙ form-not_foralls c.in-Forall.first c.in-Forall.count c.in-Forall.part.now) c.requires.can, subst (AreFresh c.args.blocks.now) (ap bindings c.in-Forall.ensures.shown ∙ bindings-foralls c.in-Forall.first c.in-Forall.count c.in-Forall.part.now) c.requires.fresh),
-)
-
-pub add-returns-else-sign-5-clause-added : goal.add-returns-else-sign-5-clause-added
-add-returns-else-sign-5-clause-added t c =
-    subst (λ f. OnOk c.add_existential.result (c.add_existential.new.clause ≡ gathered c.args.clause.now (literals_chosen f (place_below c.args.blocks.now c.args.next) c.args.place)))
-    (sym ((λ i. signed_form (c.in-Forall.ensures.shown i) (c.if-sign-5.false i)) ∙ form-not_foralls c.in-Forall.first c.in-Forall.count c.in-Forall.part.now)) c.add_existential.ensures.added
-
-pub add-add_existential-requires-then-sign-6 : goal.add-add_existential-requires-then-sign-6
-add-add_existential-requires-then-sign-6 t c = (
-  omega (arith, c.decreases, c.in-Exists.ensures.smaller),
-  (subst (λ f. CanAdd f c.args.next c.args.place) ((λ i. signed_form (c.in-Exists.ensures.shown i) (c.if-sign-6.true i)) ∙ form-exists c.in-Exists.first c.in-Exists.count c.in-Exists.part.now) c.requires.can, subst (AreFresh c.args.blocks.now) (ap bindings c.in-Exists.ensures.shown ∙ bindings-exists c.in-Exists.first c.in-Exists.count c.in-Exists.part.now) c.requires.fresh),
-)
-
-pub add-returns-then-sign-6-clause-added : goal.add-returns-then-sign-6-clause-added
-add-returns-then-sign-6-clause-added t c =
-    subst (λ f. OnOk c.add_existential-then-sign-6.result (c.add_existential-then-sign-6.new.clause ≡ gathered c.args.clause.now (literals_chosen f (place_below c.args.blocks.now c.args.next) c.args.place)))
-    (sym ((λ i. signed_form (c.in-Exists.ensures.shown i) (c.if-sign-6.true i)) ∙ form-exists c.in-Exists.first c.in-Exists.count c.in-Exists.part.now)) c.add_existential-then-sign-6.ensures.added
-
-pub add-add_universal-requires-else-sign-6 : goal.add-add_universal-requires-else-sign-6
-add-add_universal-requires-else-sign-6 t c = (
-  omega (arith, c.decreases, c.in-Exists.ensures.smaller),
-  (subst (λ f. CanAdd f c.args.next c.args.place) ((λ i. signed_form (c.in-Exists.ensures.shown i) (c.if-sign-6.false i)) ∙ form-not_exists c.in-Exists.first c.in-Exists.count c.in-Exists.part.now) c.requires.can, subst (AreFresh c.args.blocks.now) (ap bindings c.in-Exists.ensures.shown ∙ bindings-exists c.in-Exists.first c.in-Exists.count c.in-Exists.part.now) c.requires.fresh),
-)
-
-pub add-returns-else-sign-6-clause-added : goal.add-returns-else-sign-6-clause-added
-add-returns-else-sign-6-clause-added t c =
-    subst (λ f. OnOk c.add_universal-else-sign-6.result (c.add_universal-else-sign-6.new.clause ≡ gathered c.args.clause.now (literals_chosen f (place_below c.args.blocks.now c.args.next) c.args.place)))
-    (sym ((λ i. signed_form (c.in-Exists.ensures.shown i) (c.if-sign-6.false i)) ∙ form-not_exists c.in-Exists.first c.in-Exists.count c.in-Exists.part.now)) c.add_universal-else-sign-6.ensures.added
-
-pub add-add_in_one-requires : goal.add-add_in_one-requires
-add-add_in_one-requires t c = (
-  omega (arith, c.decreases, c.in-And.ensures.smaller),
-  (subst (λ f. CanAdd f c.args.next c.args.place) ((λ i. signed_form (c.in-And.ensures.shown i) (c.if-sign-2.true i)) ∙ form-And c.in-And.parts.now true) c.requires.can, subst (AreFresh c.args.blocks.now) (ap bindings c.in-And.ensures.shown ∙ bindings-And c.in-And.parts.now) c.requires.fresh),
-)
-
-pub add-returns-then-sign-2-clause-added : goal.add-returns-then-sign-2-clause-added
-add-returns-then-sign-2-clause-added t c =
-    subst (λ f. OnOk c.add_in_one.result (c.add_in_one.new.clause ≡ gathered c.args.clause.now (literals_chosen f (place_below c.args.blocks.now c.args.next) c.args.place)))
-    (sym ((λ i. signed_form (c.in-And.ensures.shown i) (c.if-sign-2.true i)) ∙ form-And c.in-And.parts.now true)) c.add_in_one.ensures.added
-
-pub add-add_in_one-requires-else-sign-3 : goal.add-add_in_one-requires-else-sign-3
-add-add_in_one-requires-else-sign-3 t c = (
-  omega (arith, c.decreases, c.in-Or.ensures.smaller),
-  (subst (λ f. CanAdd f c.args.next c.args.place) ((λ i. signed_form (c.in-Or.ensures.shown i) (c.if-sign-3.false i)) ∙ form-Or c.in-Or.parts.now false) c.requires.can, subst (AreFresh c.args.blocks.now) (ap bindings c.in-Or.ensures.shown ∙ bindings-Or c.in-Or.parts.now) c.requires.fresh),
-)
-
-pub add-returns-else-sign-3-clause-added : goal.add-returns-else-sign-3-clause-added
-add-returns-else-sign-3-clause-added t c =
-    subst (λ f. OnOk c.add_in_one-else-sign-3.result (c.add_in_one-else-sign-3.new.clause ≡ gathered c.args.clause.now (literals_chosen f (place_below c.args.blocks.now c.args.next) c.args.place)))
-    (sym ((λ i. signed_form (c.in-Or.ensures.shown i) (c.if-sign-3.false i)) ∙ form-Or c.in-Or.parts.now false)) c.add_in_one-else-sign-3.ensures.added
+    ∙ ap (λ d. gathered d (literals_chosen f (place_below c.push_existential.new.walk.blocks (c.args.next + c.args.count)) c.args.place)) c.push_existential.ensures.kept
+    ∙ ap (λ p. gathered c.args.walk.now.clause (literals_chosen f p c.args.place)) (ap (λ bs. place_below bs (c.args.next + c.args.count)) pushed ∙ place-existential c.args.walk.now.blocks c.args.first c.args.count c.args.next f)
+    ∙ ap (gathered c.args.walk.now.clause) (sym (chosen-for_any c.args.first c.args.count f (place_below c.args.walk.now.blocks c.args.next) c.args.place)))
 
 pub add_in_one-loop-part-init : goal.add_in_one-loop-part-init
 add_in_one-loop-part-init t c = record {
@@ -231,7 +301,7 @@ add_in_one-add-requires t c =
       omega (arith, c.decreases, small),
       (
         next_found c.args.sign c.args.parts.now c.loop-part.part-index c.part-item.result c.loop-part.next c.loop-part.place c.loop-part-test.true c.part-item.is c.loop-part.invariant.can below,
-        subst (λ bs. AreFresh bs (bindings c.part-item.result)) (sym c.loop-part.invariant.kept) (fresh_part c.args.blocks.now c.args.parts.now c.loop-part.part-index c.part-item.result c.loop-part-test.true c.part-item.is c.requires.fresh),
+        subst (λ bs. AreFresh bs (bindings c.part-item.result)) (sym c.loop-part.invariant.kept) (fresh_part c.args.walk.now.blocks c.args.parts.now c.loop-part.part-index c.part-item.result c.loop-part-test.true c.part-item.is c.requires.fresh),
       ),
     ))
 
@@ -241,40 +311,10 @@ add_in_one-returns-then-place-count-clause-added t c =
     let fs = forms_of c.args.sign c.args.parts.now in
     let counted = ap (λ x. x.clauses) c.count-count.ensures in
     let below : c.loop-part.place < clause_count f = omega (arith, counted, c.if-place-count.true) in
-    let picked = here c.args.sign c.args.parts.now c.loop-part.part-index c.part-item.result (place_below c.args.blocks.now c.loop-part.next) c.loop-part.place c.loop-part-test.true c.part-item.is below in
-    let all = all_chosen fs (place_below c.args.blocks.now c.args.next) c.args.place c.requires.can.within in
+    let picked = here c.args.sign c.args.parts.now c.loop-part.part-index c.part-item.result (place_below c.args.walk.now.blocks c.loop-part.next) c.loop-part.place c.loop-part-test.true c.part-item.is below in
+    let all = all_chosen fs (place_below c.args.walk.now.blocks c.args.next) c.args.place c.requires.can.within in
     let list = ap (λ bs. literals_chosen f (place_below bs c.loop-part.next) c.loop-part.place) c.loop-part.invariant.kept ∙ sym picked ∙ c.loop-part.invariant.same ∙ sym all in
-    subst (λ made. OnOk c.add.result (c.add.new.clause ≡ made)) (λ i. gathered (c.loop-part.invariant.as_before i) (list i)) c.add.ensures.added)
-
-pub add-add_in_each-requires : goal.add-add_in_each-requires
-add-add_in_each-requires t c =
-    (let e = (λ i. signed_form (c.in-And.ensures.shown i) (c.if-sign-2.false i)) ∙ form-And c.in-And.parts.now false in (
-      omega (arith, c.decreases, c.in-And.ensures.smaller),
-      (
-        subst (λ f. CanAdd f c.args.next c.args.place) e c.requires.can,
-        (ap (λ x. x.clauses) c.count-rest.ensures ∙ exact_clauses (signed_form c.args.formula.now c.args.sign) c.requires.can.few ∙ ap clause_count e, subst (AreFresh c.args.blocks.now) (ap bindings c.in-And.ensures.shown ∙ bindings-And c.in-And.parts.now) c.requires.fresh),
-      ),
-    ))
-
-pub add-add_in_each-requires-then-sign-3 : goal.add-add_in_each-requires-then-sign-3
-add-add_in_each-requires-then-sign-3 t c =
-    (let e = (λ i. signed_form (c.in-Or.ensures.shown i) (c.if-sign-3.true i)) ∙ form-Or c.in-Or.parts.now true in (
-      omega (arith, c.decreases, c.in-Or.ensures.smaller),
-      (
-        subst (λ f. CanAdd f c.args.next c.args.place) e c.requires.can,
-        (ap (λ x. x.clauses) c.count-rest-then-sign-3.ensures ∙ exact_clauses (signed_form c.args.formula.now c.args.sign) c.requires.can.few ∙ ap clause_count e, subst (AreFresh c.args.blocks.now) (ap bindings c.in-Or.ensures.shown ∙ bindings-Or c.in-Or.parts.now) c.requires.fresh),
-      ),
-    ))
-
-pub add-returns-else-sign-2-clause-added : goal.add-returns-else-sign-2-clause-added
-add-returns-else-sign-2-clause-added t c =
-    subst (λ f. OnOk c.add_in_each.result (c.add_in_each.new.clause ≡ gathered c.args.clause.now (literals_chosen f (place_below c.args.blocks.now c.args.next) c.args.place)))
-    (sym ((λ i. signed_form (c.in-And.ensures.shown i) (c.if-sign-2.false i)) ∙ form-And c.in-And.parts.now false)) c.add_in_each.ensures.added
-
-pub add-returns-then-sign-3-clause-added : goal.add-returns-then-sign-3-clause-added
-add-returns-then-sign-3-clause-added t c =
-    subst (λ f. OnOk c.add_in_each-then-sign-3.result (c.add_in_each-then-sign-3.new.clause ≡ gathered c.args.clause.now (literals_chosen f (place_below c.args.blocks.now c.args.next) c.args.place)))
-    (sym ((λ i. signed_form (c.in-Or.ensures.shown i) (c.if-sign-3.true i)) ∙ form-Or c.in-Or.parts.now true)) c.add_in_each-then-sign-3.ensures.added
+    subst (λ made. OnOk c.add.result (c.add.new.walk.clause ≡ made)) (λ i. gathered (c.loop-part.invariant.as_before i) (list i)) c.add.ensures.added)
 
 pub add_in_each-loop-part-init : goal.add_in_each-loop-part-init
 add_in_each-loop-part-init t c = record {
@@ -303,7 +343,7 @@ add_in_each-add-requires t c =
     let taken = next_taken c.args.sign c.args.parts.now c.loop-part.part-index c.part-item.result c.loop-part.next c.loop-part.place c.loop-part.rest c.loop-part-test.true c.part-item.is c.loop-part.invariant.can in
     let rows = ap (λ x. x.clauses) c.count-count.ensures ∙ exact_clauses f taken.few in
     let small = element_most c.args.parts.now c.loop-part.part-index c.part-item.result c.loop-part-test.true c.part-item.is in
-    (omega (arith, c.decreases, small), (subst (λ n. CanAdd f c.loop-part.next (c.loop-part.place / n)) (sym (ap (λ n. c.loop-part.rest / n) rows ∙ taken.divided)) taken.can, subst (λ bs. AreFresh bs (bindings c.part-item.result)) (sym c.loop-part.invariant.kept) (fresh_part c.args.blocks.now c.args.parts.now c.loop-part.part-index c.part-item.result c.loop-part-test.true c.part-item.is c.requires.fresh))))
+    (omega (arith, c.decreases, small), (subst (λ n. CanAdd f c.loop-part.next (c.loop-part.place / n)) (sym (ap (λ n. c.loop-part.rest / n) rows ∙ taken.divided)) taken.can, subst (λ bs. AreFresh bs (bindings c.part-item.result)) (sym c.loop-part.invariant.kept) (fresh_part c.args.walk.now.blocks c.args.parts.now c.loop-part.part-index c.part-item.result c.loop-part-test.true c.part-item.is c.requires.fresh))))
 
 pub add_in_each-loop-part-preserved : goal.add_in_each-loop-part-preserved
 add_in_each-loop-part-preserved t c =
@@ -311,7 +351,7 @@ add_in_each-loop-part-preserved t c =
     let fs : List Form = forms_of c.args.sign (drop (c.loop-part.part-index + 1) c.args.parts.now) in
     let next : ℕ = c.loop-part.next in
     let place : ℕ = c.loop-part.place in
-    let p : Place = place_below c.args.blocks.now next in
+    let p : Place = place_below c.args.walk.now.blocks next in
     let taken = next_taken c.args.sign c.args.parts.now c.loop-part.part-index c.part-item.result next place c.loop-part.rest c.loop-part-test.true c.part-item.is c.loop-part.invariant.can in
     let rows = ap (λ x. x.clauses) c.count-count.ensures ∙ exact_clauses f taken.few in
     let d : c.loop-part.rest / c.count-count.result.clauses ≡ product_count fs = ap (λ n. c.loop-part.rest / n) rows ∙ taken.divided in
@@ -320,10 +360,10 @@ add_in_each-loop-part-preserved t c =
     record {
       can = subst (λ n. CanTake fs (next + c.count-count.result.skolems) (place % n) n) (sym d) (subst (λ n. CanTake fs (next + n) (place % product_count fs) (product_count fs)) (sym sk) taken.later);
       made =
-          ap (λ m. gathered m (chosen_in_each fs (place_below c.args.blocks.now (next + c.count-count.result.skolems)) (place % (c.loop-part.rest / c.count-count.result.clauses)))) c.in_ok-add.ensures.added
-          ∙ (λ i. gathered (gathered c.loop-part.clause (literals_chosen f (place_below (c.loop-part.invariant.kept i) next) (place / d i))) (chosen_in_each fs (place_below c.args.blocks.now (next + sk i)) (place % d i)))
-          ∙ sym (gathered_two c.loop-part.clause (literals_chosen f p (place / product_count fs)) (chosen_in_each fs (behind f p) (place % product_count fs)))
-          ∙ ap (gathered c.loop-part.clause) (sym list)
+          ap (λ m. gathered m (chosen_in_each fs (place_below c.args.walk.now.blocks (next + c.count-count.result.skolems)) (place % (c.loop-part.rest / c.count-count.result.clauses)))) c.in_ok-add.ensures.added
+          ∙ (λ i. gathered (gathered c.loop-part.walk.clause (literals_chosen f (place_below (c.loop-part.invariant.kept i) next) (place / d i))) (chosen_in_each fs (place_below c.args.walk.now.blocks (next + sk i)) (place % d i)))
+          ∙ sym (gathered_two c.loop-part.walk.clause (literals_chosen f p (place / product_count fs)) (chosen_in_each fs (behind f p) (place % product_count fs)))
+          ∙ ap (gathered c.loop-part.walk.clause) (sym list)
           ∙ c.loop-part.invariant.made;
       kept = c.in_ok-add.ensures.kept ∙ c.loop-part.invariant.kept;
     })
@@ -333,6 +373,6 @@ add_in_each-returns-clause-added t c =
     (let fs : List Form = forms_of c.args.sign c.args.parts.now in
     let can = can_take fs c.args.next c.args.place c.args.rest c.requires.can c.requires.exact in
     let none = drop_past c.args.parts.now c.loop-part.part-index c.loop-part-test.false in
-    sym (ap (λ us. gathered c.loop-part.clause (chosen_in_each (forms_of c.args.sign us) (place_below c.args.blocks.now c.loop-part.next) c.loop-part.place)) none)
+    sym (ap (λ us. gathered c.loop-part.walk.clause (chosen_in_each (forms_of c.args.sign us) (place_below c.args.walk.now.blocks c.loop-part.next) c.loop-part.place)) none)
     ∙ c.loop-part.invariant.made
-    ∙ ap (gathered c.args.clause.now) (sym (some_chosen fs (place_below c.args.blocks.now c.args.next) c.args.place can.within)))
+    ∙ ap (gathered c.args.walk.now.clause) (sym (some_chosen fs (place_below c.args.walk.now.blocks c.args.next) c.args.place can.within)))
