@@ -22,19 +22,19 @@ use std::alloc::Global;
 #[derive(Drop)]
 pub struct Walk {
     alloc: Global,
-    pub blocks: Items<Block>,
+    pub scopes: Items<Block>,
     pub clause: Clause,
 }
 
 impl Walk {
     /// A walk outside all scopes, with an empty clause; it takes no memory.
     pub fn new(alloc: Global) -> Walk
-        ensures blocks { result.blocks ≡ [] }
+        ensures scopes { result.scopes ≡ [] }
         ensures clause { IsEmpty result.clause }
     {
         Walk {
             alloc,
-            blocks: Items::new(alloc),
+            scopes: Items::new(alloc),
             clause: Clause::new(alloc),
         }
     }
@@ -61,10 +61,10 @@ fn count_either(left: &Formula, left_sign: bool, right: &Formula, right_sign: bo
 /// Adds an atom, with the terms of its scopes, as a literal.
 fn add_atom(walk: &mut Walk, atom: &Atom, sign: bool) -> Result<(), Stop>
     ensures added { OnOk result (walk.new.clause ≡ with_signed_atom walk.old.clause
-        (record { sign = sign; atom = replace_in_atom (term_in walk.old.blocks) atom.now })) }
-    ensures kept { walk.new.blocks ≡ walk.old.blocks }
+        (record { sign = sign; atom = replace_in_atom (term_in walk.old.scopes) atom.now })) }
+    ensures kept { walk.new.scopes ≡ walk.old.scopes }
 {
-    match atom_instance(walk.alloc, walk.blocks.as_slice(), atom) {
+    match atom_instance(walk.alloc, walk.scopes.as_slice(), atom) {
         Ok(atom) => add_literal(&mut walk.clause, sign, atom),
         Err(_) => Err(Stop::Memory),
     }
@@ -72,7 +72,7 @@ fn add_atom(walk: &mut Walk, atom: &Atom, sign: bool) -> Result<(), Stop>
 
 /// Enters the scope of a universal quantifier.
 fn push_universal(walk: &mut Walk, first: u32, count: u32) -> Result<(), Stop>
-    ensures pushed { OnOk result (walk.new.blocks ≡ walk.old.blocks ++ universal_block first count ∷ []) }
+    ensures pushed { OnOk result (walk.new.scopes ≡ walk.old.scopes ++ universal_block first count ∷ []) }
     ensures kept { walk.new.clause ≡ walk.old.clause }
 {
     let block = Block {
@@ -80,7 +80,7 @@ fn push_universal(walk: &mut Walk, first: u32, count: u32) -> Result<(), Stop>
         count,
         terms: Items::new(walk.alloc),
     };
-    match walk.blocks.push(block) {
+    match walk.scopes.push(block) {
         Ok(()) => Ok(()),
         Err(_) => Err(Stop::Memory),
     }
@@ -94,14 +94,14 @@ fn push_existential(
     part: &Formula,
     next: u32,
 ) -> Result<(), Stop>
-    requires fresh { AreFresh walk.now.blocks (numbers_from first count ++ bindings part.now) }
+    requires fresh { AreFresh walk.now.scopes (numbers_from first count ++ bindings part.now) }
     requires room { next + count ≤ 65536 }
-    ensures pushed { OnOk result ((sign : Bool) → walk.new.blocks ≡ walk.old.blocks
-        ++ existential_block first count (signed_form part.now sign) (place_below walk.old.blocks next) ∷ []) }
+    ensures pushed { OnOk result ((sign : Bool) → walk.new.scopes ≡ walk.old.scopes
+        ++ existential_block first count (signed_form part.now sign) (place_below walk.old.scopes next) ∷ []) }
     ensures kept { walk.new.clause ≡ walk.old.clause }
 {
-    match skolem_block(walk.alloc, walk.blocks.as_slice(), first, count, part, next) {
-        Ok(block) => match walk.blocks.push(block) {
+    match skolem_block(walk.alloc, walk.scopes.as_slice(), first, count, part, next) {
+        Ok(block) => match walk.scopes.push(block) {
             Ok(()) => Ok(()),
             Err(_) => Err(Stop::Memory),
         },
@@ -119,10 +119,10 @@ pub fn add(
     place: u32,
 ) -> Result<(), Stop>
     requires can { CanAdd (signed_form formula.now sign) next place }
-    requires fresh { AreFresh walk.now.blocks (bindings formula.now) }
+    requires fresh { AreFresh walk.now.scopes (bindings formula.now) }
     ensures added { OnOk result (walk.new.clause ≡ with_chosen walk.old.clause
-        (signed_form formula.now sign) walk.old.blocks next place) }
-    ensures kept { OnOk result (walk.new.blocks ≡ walk.old.blocks) }
+        (signed_form formula.now sign) walk.old.scopes next place) }
+    ensures kept { OnOk result (walk.new.scopes ≡ walk.old.scopes) }
 {
     if sign {
         add_positive(walk, formula, next, place)
@@ -135,10 +135,10 @@ pub fn add(
 #[cycle(walk)]
 fn add_positive(walk: &mut Walk, formula: &Formula, next: u32, place: u32) -> Result<(), Stop>
     requires can { CanAdd (signed_form formula.now true) next place }
-    requires fresh { AreFresh walk.now.blocks (bindings formula.now) }
+    requires fresh { AreFresh walk.now.scopes (bindings formula.now) }
     ensures added { OnOk result (walk.new.clause ≡ with_chosen walk.old.clause
-        (signed_form formula.now true) walk.old.blocks next place) }
-    ensures kept { OnOk result (walk.new.blocks ≡ walk.old.blocks) }
+        (signed_form formula.now true) walk.old.scopes next place) }
+    ensures kept { OnOk result (walk.new.scopes ≡ walk.old.scopes) }
 {
     match formula.case() {
         Case::True => Ok(()),
@@ -165,10 +165,10 @@ fn add_positive(walk: &mut Walk, formula: &Formula, next: u32, place: u32) -> Re
 #[cycle(walk)]
 fn add_negative(walk: &mut Walk, formula: &Formula, next: u32, place: u32) -> Result<(), Stop>
     requires can { CanAdd (signed_form formula.now false) next place }
-    requires fresh { AreFresh walk.now.blocks (bindings formula.now) }
+    requires fresh { AreFresh walk.now.scopes (bindings formula.now) }
     ensures added { OnOk result (walk.new.clause ≡ with_chosen walk.old.clause
-        (signed_form formula.now false) walk.old.blocks next place) }
-    ensures kept { OnOk result (walk.new.blocks ≡ walk.old.blocks) }
+        (signed_form formula.now false) walk.old.scopes next place) }
+    ensures kept { OnOk result (walk.new.scopes ≡ walk.old.scopes) }
 {
     match formula.case() {
         Case::True => Ok(()),
@@ -203,11 +203,11 @@ fn add_both(
     place: u32,
 ) -> Result<(), Stop>
     requires can { CanAdd (one_of left.now left_sign right.now right_sign) next place }
-    requires left { AreFresh walk.now.blocks (bindings left.now) }
-    requires right { AreFresh walk.now.blocks (bindings right.now) }
+    requires left { AreFresh walk.now.scopes (bindings left.now) }
+    requires right { AreFresh walk.now.scopes (bindings right.now) }
     ensures added { OnOk result (walk.new.clause ≡ with_chosen walk.old.clause
-        (one_of left.now left_sign right.now right_sign) walk.old.blocks next place) }
-    ensures kept { OnOk result (walk.new.blocks ≡ walk.old.blocks) }
+        (one_of left.now left_sign right.now right_sign) walk.old.scopes next place) }
+    ensures kept { OnOk result (walk.new.scopes ≡ walk.old.scopes) }
 {
     let skolems = count(left, left_sign).skolems;
     let rows = count(right, right_sign).clauses;
@@ -227,11 +227,11 @@ fn add_one(
     place: u32,
 ) -> Result<(), Stop>
     requires can { CanAdd (both_of left.now left_sign right.now right_sign) next place }
-    requires left { AreFresh walk.now.blocks (bindings left.now) }
-    requires right { AreFresh walk.now.blocks (bindings right.now) }
+    requires left { AreFresh walk.now.scopes (bindings left.now) }
+    requires right { AreFresh walk.now.scopes (bindings right.now) }
     ensures added { OnOk result (walk.new.clause ≡ with_chosen walk.old.clause
-        (both_of left.now left_sign right.now right_sign) walk.old.blocks next place) }
-    ensures kept { OnOk result (walk.new.blocks ≡ walk.old.blocks) }
+        (both_of left.now left_sign right.now right_sign) walk.old.scopes next place) }
+    ensures kept { OnOk result (walk.new.scopes ≡ walk.old.scopes) }
 {
     let first = count(left, left_sign);
     if place < first.clauses {
@@ -257,11 +257,11 @@ fn add_equivalence(
     place: u32,
 ) -> Result<(), Stop>
     requires can { CanAdd (agreement left.now right.now) next place }
-    requires left { AreFresh walk.now.blocks (bindings left.now) }
-    requires right { AreFresh walk.now.blocks (bindings right.now) }
+    requires left { AreFresh walk.now.scopes (bindings left.now) }
+    requires right { AreFresh walk.now.scopes (bindings right.now) }
     ensures added { OnOk result (walk.new.clause ≡ with_chosen walk.old.clause
-        (agreement left.now right.now) walk.old.blocks next place) }
-    ensures kept { OnOk result (walk.new.blocks ≡ walk.old.blocks) }
+        (agreement left.now right.now) walk.old.scopes next place) }
+    ensures kept { OnOk result (walk.new.scopes ≡ walk.old.scopes) }
 {
     let first = count_either(left, false, right, true);
     if place < first.clauses {
@@ -289,11 +289,11 @@ fn add_difference(
     place: u32,
 ) -> Result<(), Stop>
     requires can { CanAdd (difference left.now right.now) next place }
-    requires left { AreFresh walk.now.blocks (bindings left.now) }
-    requires right { AreFresh walk.now.blocks (bindings right.now) }
+    requires left { AreFresh walk.now.scopes (bindings left.now) }
+    requires right { AreFresh walk.now.scopes (bindings right.now) }
     ensures added { OnOk result (walk.new.clause ≡ with_chosen walk.old.clause
-        (difference left.now right.now) walk.old.blocks next place) }
-    ensures kept { OnOk result (walk.new.blocks ≡ walk.old.blocks) }
+        (difference left.now right.now) walk.old.scopes next place) }
+    ensures kept { OnOk result (walk.new.scopes ≡ walk.old.scopes) }
 {
     let first = count_either(left, true, right, true);
     if place < first.clauses {
@@ -323,14 +323,14 @@ fn add_universal(
     place: u32,
 ) -> Result<(), Stop>
     requires can { CanAdd (for_each first count (signed_form part.now sign)) next place }
-    requires fresh { AreFresh walk.now.blocks (numbers_from first count ++ bindings part.now) }
+    requires fresh { AreFresh walk.now.scopes (numbers_from first count ++ bindings part.now) }
     ensures added { OnOk result (walk.new.clause ≡ with_chosen walk.old.clause
-        (for_each first count (signed_form part.now sign)) walk.old.blocks next place) }
-    ensures kept { OnOk result (walk.new.blocks ≡ walk.old.blocks) }
+        (for_each first count (signed_form part.now sign)) walk.old.scopes next place) }
+    ensures kept { OnOk result (walk.new.scopes ≡ walk.old.scopes) }
 {
     push_universal(walk, first, count)?;
     add(walk, part, sign, next, place)?;
-    walk.blocks.pop();
+    walk.scopes.pop();
     Ok(())
 }
 
@@ -346,14 +346,14 @@ fn add_existential(
     place: u32,
 ) -> Result<(), Stop>
     requires can { CanAdd (for_any first count (signed_form part.now sign)) next place }
-    requires fresh { AreFresh walk.now.blocks (numbers_from first count ++ bindings part.now) }
+    requires fresh { AreFresh walk.now.scopes (numbers_from first count ++ bindings part.now) }
     ensures added { OnOk result (walk.new.clause ≡ with_chosen walk.old.clause
-        (for_any first count (signed_form part.now sign)) walk.old.blocks next place) }
-    ensures kept { OnOk result (walk.new.blocks ≡ walk.old.blocks) }
+        (for_any first count (signed_form part.now sign)) walk.old.scopes next place) }
+    ensures kept { OnOk result (walk.new.scopes ≡ walk.old.scopes) }
 {
     push_existential(walk, first, count, part, next)?;
     add(walk, part, sign, next + count, place)?;
-    walk.blocks.pop();
+    walk.scopes.pop();
     Ok(())
 }
 
@@ -367,10 +367,10 @@ fn add_in_one(
     place: u32,
 ) -> Result<(), Stop>
     requires can { CanAdd (all_of sign parts.now) next place }
-    requires fresh { AreFresh walk.now.blocks (flat_map bindings parts.now) }
+    requires fresh { AreFresh walk.now.scopes (flat_map bindings parts.now) }
     ensures added { OnOk result (walk.new.clause ≡ with_chosen walk.old.clause
-        (all_of sign parts.now) walk.old.blocks next place) }
-    ensures kept { OnOk result (walk.new.blocks ≡ walk.old.blocks) }
+        (all_of sign parts.now) walk.old.scopes next place) }
+    ensures kept { OnOk result (walk.new.scopes ≡ walk.old.scopes) }
 {
     let mut next = next;
     let mut place = place;
@@ -397,10 +397,10 @@ fn add_in_each(
 ) -> Result<(), Stop>
     requires can { CanAdd (some_hold sign parts.now) next place }
     requires exact { rest ≡ clause_count (some_hold sign parts.now) }
-    requires fresh { AreFresh walk.now.blocks (flat_map bindings parts.now) }
+    requires fresh { AreFresh walk.now.scopes (flat_map bindings parts.now) }
     ensures added { OnOk result (walk.new.clause ≡ with_chosen walk.old.clause
-        (some_hold sign parts.now) walk.old.blocks next place) }
-    ensures kept { OnOk result (walk.new.blocks ≡ walk.old.blocks) }
+        (some_hold sign parts.now) walk.old.scopes next place) }
+    ensures kept { OnOk result (walk.new.scopes ≡ walk.old.scopes) }
 {
     let mut next = next;
     let mut place = place;

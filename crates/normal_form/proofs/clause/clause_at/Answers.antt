@@ -15,7 +15,7 @@ use Rattle.normal_form.proofs.clause.clause_at.Goals as goal
 pub add-requires : goal.add-requires
 add-requires c = record {
   can = c.requires.can;
-  fresh = subst (λ bs. AreFresh bs (bindings c.args.formula.now)) (sym c.new-walk.ensures.blocks) (fresh_outside (bindings c.args.formula.now) c.requires.different);
+  fresh = subst (λ bs. AreFresh bs (bindings c.args.formula.now)) (sym c.new-walk.ensures.scopes) (fresh_outside (bindings c.args.formula.now) c.requires.different);
 }
 
 pub returns-in-Ok : goal.returns-in-Ok
@@ -23,6 +23,6 @@ returns-in-Ok c =
     (let f : Form = signed_form c.args.formula.now c.args.sign in
     let none = c.new-walk.ensures.clause in
     let empty : c.new-walk.result.clause ≡ nothing_gathered = λ i. record { constraint = none.0 i; antecedent = none.1 i; succedent = none.2 i } in
-    let made = c.in_ok-add.ensures.added ∙ (λ i. gathered (empty i) (literals_chosen f (place_below (c.new-walk.ensures.blocks i) c.args.next) c.args.place)) in
+    let made = c.in_ok-add.ensures.added ∙ (λ i. gathered (empty i) (literals_chosen f (place_below (c.new-walk.ensures.scopes i) c.args.next) c.args.place)) in
     clause-get f c.args.next c.args.place c.requires.can.within
     ∙ ap Some (sym (c.in-Ok.ensures.exact ∙ ap in_order made ∙ in_order-gathered (literals_chosen f (start c.args.next) c.args.place))))

@@ -40,8 +40,8 @@ decreases-add_in_one l = 4 * most (λ t. tree_size t + 1) l.parts.now + 1
 abbrev pub invariant-add_in_one-loop-part : goal.invariant-add_in_one-loop-part
 invariant-add_in_one-loop-part l = record {
   can : CanFind (forms_of l.fn.sign (drop l.part-index l.parts)) l.next l.place;
-  same : chosen_in_one (forms_of l.fn.sign (drop l.part-index l.parts)) (place_below l.fn.walk.blocks l.next) l.place ≡ chosen_in_one (forms_of l.fn.sign l.parts) (place_below l.fn.walk.blocks l.fn.next) l.fn.place;
-  kept : l.walk.blocks ≡ l.fn.walk.blocks;
+  same : chosen_in_one (forms_of l.fn.sign (drop l.part-index l.parts)) (place_below l.fn.walk.scopes l.next) l.place ≡ chosen_in_one (forms_of l.fn.sign l.parts) (place_below l.fn.walk.scopes l.fn.next) l.fn.place;
+  kept : l.walk.scopes ≡ l.fn.walk.scopes;
   as_before : l.walk.clause ≡ l.fn.walk.clause;
 }
 
@@ -51,6 +51,6 @@ decreases-add_in_each l = 4 * most (λ t. tree_size t + 1) l.parts.now + 1
 abbrev pub invariant-add_in_each-loop-part : goal.invariant-add_in_each-loop-part
 invariant-add_in_each-loop-part l = record {
   can : CanTake (forms_of l.fn.sign (drop l.part-index l.parts)) l.next l.place l.rest;
-  made : gathered l.walk.clause (chosen_in_each (forms_of l.fn.sign (drop l.part-index l.parts)) (place_below l.fn.walk.blocks l.next) l.place) ≡ gathered l.fn.walk.clause (chosen_in_each (forms_of l.fn.sign l.parts) (place_below l.fn.walk.blocks l.fn.next) l.fn.place);
-  kept : l.walk.blocks ≡ l.fn.walk.blocks;
+  made : gathered l.walk.clause (chosen_in_each (forms_of l.fn.sign (drop l.part-index l.parts)) (place_below l.fn.walk.scopes l.next) l.place) ≡ gathered l.fn.walk.clause (chosen_in_each (forms_of l.fn.sign l.parts) (place_below l.fn.walk.scopes l.fn.next) l.fn.place);
+  kept : l.walk.scopes ≡ l.fn.walk.scopes;
 }
