@@ -61,12 +61,12 @@ module _ (f h : ℕ → Term) (q : ℕ → Bool) (same : (v : ℕ) → q v ≡ t
 
 -- ---- both parts at once
 
-abbrev pub is_among : List ℕ → ℕ → Bool
-is_among vs v = list_any (λ w. v == w) vs
+abbrev pub is_one_of : List ℕ → ℕ → Bool
+is_one_of vs v = list_any (λ w. v == w) vs
 
 -- g on these variables, and k on all others
 abbrev pub combined : List ℕ → (ℕ → Term) → (ℕ → Term) → ℕ → Term
-combined vs g k v = if is_among vs v then g v else k v
+combined vs g k v = if is_one_of vs v then g v else k v
 
 pub marked_are : (bs : List Bool) (atoms : List Atom) → flat_map atom_variables (marked bs atoms) ≡ marked_variables bs (map atom_variables atoms)
 marked_are [] atoms = refl
@@ -74,11 +74,11 @@ marked_are (b ∷ bs) [] = refl
 marked_are (true ∷ bs) (a ∷ atoms) = ap (λ l. atom_variables a ++ l) (marked_are bs atoms)
 marked_are (false ∷ bs) (a ∷ atoms) = marked_are bs atoms
 
-all_in : (before vs : List ℕ) → list_all (is_among (before ++ vs)) vs ≡ true
+all_in : (before vs : List ℕ) → list_all (is_one_of (before ++ vs)) vs ≡ true
 all_in before [] = refl
 all_in before (v ∷ vs) =
-    let here : is_among (before ++ v ∷ vs) v ≡ true = list_any-append (λ w. v == w) before (v ∷ vs) ∙ or_right (is_among before v) (is_among (v ∷ vs) v) (ap (λ b. b || is_among vs v) (itself v)) in
-    let rest : list_all (is_among (before ++ v ∷ vs)) vs ≡ true = ap (λ l. list_all (is_among l) vs) (sym (append_assoc before (v ∷ []) vs)) ∙ all_in (before ++ v ∷ []) vs in
+    let here : is_one_of (before ++ v ∷ vs) v ≡ true = list_any-append (λ w. v == w) before (v ∷ vs) ∙ or_right (is_one_of before v) (is_one_of (v ∷ vs) v) (ap (λ b. b || is_one_of vs v) (itself v)) in
+    let rest : list_all (is_one_of (before ++ v ∷ vs)) vs ≡ true = ap (λ l. list_all (is_one_of l) vs) (sym (append_assoc before (v ∷ []) vs)) ∙ all_in (before ++ v ∷ []) vs in
     λ i. here i && rest i
 
 none_in : (p : ℕ → Bool) (vs : List ℕ) → list_any p vs ≡ false → list_all (λ v. not (p v)) vs ≡ true
@@ -106,25 +106,25 @@ module _ (n : ℕ) (atoms : List Atom) (g k : ℕ → Term) where
   abbrev variables_in : List ℕ
   variables_in = marked_variables marks_of (map atom_variables atoms)
 
-  taken_in : (v : ℕ) → is_among variables_in v ≡ true → combined variables_in g k v ≡ g v
+  taken_in : (v : ℕ) → is_one_of variables_in v ≡ true → combined variables_in g k v ≡ g v
   taken_in v e = ap (λ b. if b then g v else k v) e
 
-  taken_out : (v : ℕ) → not (is_among variables_in v) ≡ true → combined variables_in g k v ≡ k v
-  taken_out v e = ap (λ b. if b then g v else k v) (not-true (is_among variables_in v) e)
+  taken_out : (v : ℕ) → not (is_one_of variables_in v) ≡ true → combined variables_in g k v ≡ k v
+  taken_out v e = ap (λ b. if b then g v else k v) (not-true (is_one_of variables_in v) e)
 
   -- the component becomes what g makes of it
   pub joint_left : at_each (combined variables_in g k) (marked marks_of atoms) ≡ at_each g (marked marks_of atoms)
-  joint_left = agree_atoms (combined variables_in g k) g (is_among variables_in) taken_in (marked marks_of atoms) (ap (list_all (is_among variables_in)) (marked_are marks_of atoms) ∙ all_in [] variables_in)
+  joint_left = agree_atoms (combined variables_in g k) g (is_one_of variables_in) taken_in (marked marks_of atoms) (ap (list_all (is_one_of variables_in)) (marked_are marks_of atoms) ∙ all_in [] variables_in)
 
   -- and the rest what k makes of it
   pub joint_right : at_each (combined variables_in g k) (marked (map not marks_of) atoms) ≡ at_each k (marked (map not marks_of) atoms)
   joint_right =
       let lists : List (List ℕ) = map atom_variables atoms in
-      let apart : list_any (list_any (is_among variables_in)) (marked (map not marks_of) lists) ≡ false =
-      any_same (list_any (is_among variables_in)) (λ vs. list_any (share vs) (marked marks_of lists)) (λ vs. share-reached vs marks_of lists) (marked (map not marks_of) lists) ∙ component_apart n lists in
-      agree_atoms (combined variables_in g k) k (λ v. not (is_among variables_in v)) taken_out (marked (map not marks_of) atoms)
-      (none_in (is_among variables_in) (flat_map atom_variables (marked (map not marks_of) atoms))
-      (ap (list_any (is_among variables_in)) (marked_are (map not marks_of) atoms) ∙ any_reached (is_among variables_in) (map not marks_of) lists ∙ apart))
+      let apart : list_any (list_any (is_one_of variables_in)) (marked (map not marks_of) lists) ≡ false =
+      any_same (list_any (is_one_of variables_in)) (λ vs. list_any (share vs) (marked marks_of lists)) (λ vs. share-reached vs marks_of lists) (marked (map not marks_of) lists) ∙ component_apart n lists in
+      agree_atoms (combined variables_in g k) k (λ v. not (is_one_of variables_in v)) taken_out (marked (map not marks_of) atoms)
+      (none_in (is_one_of variables_in) (flat_map atom_variables (marked (map not marks_of) atoms))
+      (ap (list_any (is_one_of variables_in)) (marked_are (map not marks_of) atoms) ∙ any_reached (is_one_of variables_in) (map not marks_of) lists ∙ apart))
 
 -- ---- the same of the parts of a clause
 

@@ -18,7 +18,7 @@ use Rattle.proof_steps.proofs.Steps.{some_inj}
 use Rattle.clause_parts.specs.MarkLaws.{length-component}
 use Rattle.proof_steps.proofs.Options.{chosen, mapped, chained}
 use Rattle.proof_steps.proofs.Resolution.{clause_flips-usable, at_ground, grounded_instance, either_joined}
-use Rattle.clause_parts.specs.JointLaws.{combined, is_among}
+use Rattle.clause_parts.specs.JointLaws.{combined, is_one_of}
 use Rattle.proof_steps.proofs.PartTruths.{jointly, jointly_left, jointly_right, truth_parted}
 
 -- ---- the marks of the left part are a component
@@ -51,7 +51,7 @@ moved-ground : (c : Clause) (g : ℕ → Term) → AllGround g → AllGround (mo
 moved-ground c g all v = ground-replace g all (Var (number_in (at_lists distinct c) v))
 
 both-ground : (vs : List ℕ) (g k : ℕ → Term) → AllGround g → AllGround k → AllGround (combined vs g k)
-both-ground vs g k all_g all_k v = by_test (is_among vs v)
+both-ground vs g k all_g all_k v = by_test (is_one_of vs v)
   where
     by_test : (b : Bool) → is_ground_term (if b then g v else k v) ≡ true
     by_test true = all_g v
