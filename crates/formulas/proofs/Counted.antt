@@ -5,29 +5,29 @@ use Rattle.formulas.specs.declared.tree.Tree as tree
 use Rattle.formulas.specs.declared.tree.Tree.{Tree}
 use Rattle.formulas.specs.Trees.{foralls, exists}
 use Rattle.formulas.specs.Negations.{Form, constant, literal, both, either, signed_form, all_of, some_hold}
-use Rattle.formulas.specs.Counts.{clause_count, existentials, saturated, count_of, counts_of}
+use Rattle.formulas.specs.Counts.{clause_count, existentials, saturated, form_count, counts_of}
 use Rattle.formulas.specs.FormLaws.{form-True, form-False, form-Atom, form-Not, form-And, form-Or, form-Forall, form-Exists}
 
 -- by the forms of the two signs
-pub counts_by : (t : Tree) (f g : Form) → signed_form t true ≡ f → signed_form t false ≡ g → counts_of t ≡ record { positive = count_of f; negative = count_of g }
-counts_by t f g p q = λ i. record { positive = count_of (p i); negative = count_of (q i) }
+pub counts_by : (t : Tree) (f g : Form) → signed_form t true ≡ f → signed_form t false ≡ g → counts_of t ≡ record { positive = form_count f; negative = form_count g }
+counts_by t f g p q = λ i. record { positive = form_count (p i); negative = form_count (q i) }
 
-pub counts-True : counts_of tree.True ≡ record { positive = count_of (constant true); negative = count_of (constant false) }
+pub counts-True : counts_of tree.True ≡ record { positive = form_count (constant true); negative = form_count (constant false) }
 counts-True = counts_by tree.True (constant true) (constant false) (form-True true) (form-True false)
 
-pub counts-False : counts_of tree.False ≡ record { positive = count_of (constant false); negative = count_of (constant true) }
+pub counts-False : counts_of tree.False ≡ record { positive = form_count (constant false); negative = form_count (constant true) }
 counts-False = counts_by tree.False (constant false) (constant true) (form-False true) (form-False false)
 
-pub counts-Atom : (a : Atom) → counts_of (tree.Atom a) ≡ record { positive = count_of (literal true a); negative = count_of (literal false a) }
+pub counts-Atom : (a : Atom) → counts_of (tree.Atom a) ≡ record { positive = form_count (literal true a); negative = form_count (literal false a) }
 counts-Atom a = counts_by (tree.Atom a) (literal true a) (literal false a) (form-Atom a true) (form-Atom a false)
 
 pub counts-Not : (t : Tree) → counts_of (tree.Not t) ≡ record { positive = (counts_of t).negative; negative = (counts_of t).positive }
 counts-Not t = counts_by (tree.Not t) (signed_form t false) (signed_form t true) (form-Not t true) (form-Not t false)
 
-pub counts-And : (ts : List Tree) → counts_of (tree.And ts) ≡ record { positive = count_of (all_of true ts); negative = count_of (some_hold false ts) }
+pub counts-And : (ts : List Tree) → counts_of (tree.And ts) ≡ record { positive = form_count (all_of true ts); negative = form_count (some_hold false ts) }
 counts-And ts = counts_by (tree.And ts) (all_of true ts) (some_hold false ts) (form-And ts true) (form-And ts false)
 
-pub counts-Or : (ts : List Tree) → counts_of (tree.Or ts) ≡ record { positive = count_of (some_hold true ts); negative = count_of (all_of false ts) }
+pub counts-Or : (ts : List Tree) → counts_of (tree.Or ts) ≡ record { positive = form_count (some_hold true ts); negative = form_count (all_of false ts) }
 counts-Or ts = counts_by (tree.Or ts) (some_hold true ts) (all_of false ts) (form-Or ts true) (form-Or ts false)
 
 -- ---- one more of several parts
@@ -82,7 +82,7 @@ skolems-no_exists first zero t = refl
 skolems-no_exists first (suc count) t = ap existentials (form-Exists first (exists (suc first) count t) false) ∙ skolems-no_exists (suc first) count t
 
 pub counts-foralls : (first count : ℕ) (t : Tree) → counts_of (foralls first count t)
-    ≡ record { positive = count_of (signed_form t true); negative = record { clauses = saturated (clause_count (signed_form t false)); skolems = saturated (existentials (signed_form t false) + count) } }
+    ≡ record { positive = form_count (signed_form t true); negative = record { clauses = saturated (clause_count (signed_form t false)); skolems = saturated (existentials (signed_form t false) + count) } }
 counts-foralls first count t =
     let p = clauses-foralls first count t true in
     let q = skolems-foralls first count t in
@@ -91,7 +91,7 @@ counts-foralls first count t =
     λ i. record { positive = record { clauses = saturated (p i); skolems = saturated (q i) }; negative = record { clauses = saturated (r i); skolems = saturated (s i) } }
 
 pub counts-exists : (first count : ℕ) (t : Tree) → counts_of (exists first count t)
-    ≡ record { positive = record { clauses = saturated (clause_count (signed_form t true)); skolems = saturated (existentials (signed_form t true) + count) }; negative = count_of (signed_form t false) }
+    ≡ record { positive = record { clauses = saturated (clause_count (signed_form t true)); skolems = saturated (existentials (signed_form t true) + count) }; negative = form_count (signed_form t false) }
 counts-exists first count t =
     let p = clauses-exists first count t true in
     let q = skolems-exists first count t in

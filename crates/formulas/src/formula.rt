@@ -4,7 +4,7 @@ ghost use Rattle.std.specs.Prelude.{◌≡◌, ◌≤◌, ◌<◌, true, false, 
 ghost use Rattle.formulas.specs.declared.tree.Tree as tree;
 ghost use Rattle.formulas.specs.Trees.{foralls, exists, tree_size};
 ghost use Rattle.formulas.specs.Negations.{all_of, some_hold};
-ghost use Rattle.formulas.specs.Counts.{count_of, counts_of};
+ghost use Rattle.formulas.specs.Counts.{form_count, counts_of};
 ghost use Rattle.formulas.specs.Cases.{tree_of_case, AreSmaller};
 
 use crate::counts::{Count, Counts};
@@ -96,7 +96,7 @@ pub enum Case<'a> {
 
 /// The counts where all of the formulas hold, and where not all do.
 fn counts_of_all(parts: &[Formula]) -> Counts
-    ensures { result ≡ record { positive = count_of (all_of true parts.now); negative = count_of (some_hold false parts.now) } }
+    ensures { result ≡ record { positive = form_count (all_of true parts.now); negative = form_count (some_hold false parts.now) } }
 {
     let mut positive = Count::constant(true);
     let mut negative = Count::constant(false);
@@ -110,7 +110,7 @@ fn counts_of_all(parts: &[Formula]) -> Counts
 
 /// The counts where one of the formulas holds, and where none does.
 fn counts_of_some(parts: &[Formula]) -> Counts
-    ensures { result ≡ record { positive = count_of (some_hold true parts.now); negative = count_of (all_of false parts.now) } }
+    ensures { result ≡ record { positive = form_count (some_hold true parts.now); negative = form_count (all_of false parts.now) } }
 {
     let mut positive = Count::constant(false);
     let mut negative = Count::constant(true);

@@ -3,16 +3,16 @@ use Rattle.std.proofs.Common.{◌≡◌, ℕ, zero, suc, ◌+◌, ◌-◌, ◌*�
 use Rattle.std.proofs.Math.Nat.{mul-zero, mod-lt, div-lt_iff_lt-mul}
 use Rattle.std.proofs.lemmas.Nat.{mul-le}
 use Rattle.formulas.specs.Negations.{Form, both, either}
-use Rattle.formulas.specs.Counts.{clause_count, existentials, count_of}
+use Rattle.formulas.specs.Counts.{clause_count, existentials, form_count}
 use Rattle.normal_form.specs.Blocks.{for_each, for_any}
 use Rattle.normal_form.specs.Walking.{CanAdd, sum_count, skolem_count}
 
 -- ---- counts that are small enough are exact
 
-pub exact_clauses : (f : Form) → clause_count f ≤ 65536 → (count_of f).clauses ≡ clause_count f
+pub exact_clauses : (f : Form) → clause_count f ≤ 65536 → (form_count f).clauses ≡ clause_count f
 exact_clauses f h = omega arith
 
-pub exact_skolems : (f : Form) → existentials f ≤ 65536 → (count_of f).skolems ≡ existentials f
+pub exact_skolems : (f : Form) → existentials f ≤ 65536 → (form_count f).skolems ≡ existentials f
 exact_skolems f h = omega arith
 
 -- ---- two parts

@@ -3,7 +3,7 @@
 ghost use Rattle.std.specs.List.{flat_map};
 ghost use Rattle.std.specs.Prelude.{◌≡◌, ◌∷◌, ◌++◌, [], ◌<◌, ◌≤◌, ◌+◌, Bool, true, false, not, if◌then◌else◌, ℕ, OnOk, IfOk};
 ghost use Rattle.formulas.specs.Negations.{signed_form, all_of, some_hold};
-ghost use Rattle.formulas.specs.Counts.{count_of, clause_count};
+ghost use Rattle.formulas.specs.Counts.{form_count, clause_count};
 ghost use Rattle.normal_form.specs.declared.scope.Block.{Block};
 ghost use Rattle.normal_form.specs.Blocks.{place_below, term_in, numbers_from, for_each, for_any, universal_block, existential_block};
 ghost use Rattle.normal_form.specs.Gathering.{with_signed_atom};
@@ -42,7 +42,7 @@ impl Walk {
 
 /// The count of a formula of one sign.
 pub fn count(formula: &Formula, sign: bool) -> Count
-    ensures { result ≡ count_of (signed_form formula.now sign) }
+    ensures { result ≡ form_count (signed_form formula.now sign) }
 {
     if sign {
         formula.counts().positive
@@ -53,7 +53,7 @@ pub fn count(formula: &Formula, sign: bool) -> Count
 
 /// The count where one of two formulas holds.
 fn count_either(left: &Formula, left_sign: bool, right: &Formula, right_sign: bool) -> Count
-    ensures { result ≡ count_of (one_of left.now left_sign right.now right_sign) }
+    ensures { result ≡ form_count (one_of left.now left_sign right.now right_sign) }
 {
     count(left, left_sign).either(count(right, right_sign))
 }
