@@ -19,7 +19,7 @@ use Rattle.dfg_reader.specs.declared.problem.Entry.{Entry}
 use Rattle.dfg_reader.specs.declared.symbols.Found.{Found}
 use Rattle.dfg_reader.specs.Reading.{◌>>=◌, place, tail, refuse, fault, next_mark, next_word, mark_at, word_at, identifier_at, name_at, spelled_at, adding, commas, listed}
 use Rattle.dfg_reader.specs.Symbols.{with_arity, lookup}
-use Rattle.dfg_reader.specs.Terms.{TermReader, fits, fitting, symbol_named, checked_arity, terms_at, arguments_at, application_at, term_at, atom_at}
+use Rattle.dfg_reader.specs.Terms.{TermReader, fits_place, fitting, symbol_named, checked_arity, terms_at, arguments_at, application_at, term_at, atom_at}
 use Rattle.dfg_reader.specs.Clauses.{unsigned_at, literal_at, literals_at, body_at, within_limits, label_at, clause_at, origin_at, form_at, clauses_head_at, is_refused_list, list_at}
 use Rattle.dfg_reader.specs.Grammar.{Phrase, word, comma_separated, enclosed, arguments, IsSymbol, application, term, atom, unsigned, literal, body, label, clause, origin, clause_list}
 use Rattle.dfg_reader.proofs.Kept.{bind_ok, chosen, ok_is, refused_not, fault_not}
@@ -30,11 +30,11 @@ use Rattle.dfg_reader.proofs.Stands.{next_mark_stands, mark_stands, next_word_st
 
 -- ---- symbols
 
-fitting_stands : (in_term : Bool) (at : ℕ) (o : Option Found) (f : Found) → fitting in_term at o ≡ Ok f → (o ≡ Some f) × (fits in_term f.symbol.kind ≡ true)
+fitting_stands : (in_term : Bool) (at : ℕ) (o : Option Found) (f : Found) → fitting in_term at o ≡ Ok f → (o ≡ Some f) × (fits_place in_term f.symbol.kind ≡ true)
 fitting_stands in_term at None f e = absurd (fault_not at Undeclared f e)
 fitting_stands in_term at (Some g) f e =
-    elim (chosen (fits in_term g.symbol.kind) (Ok g) (fault at Undeclared) (Ok f) e) [
-      | inl h ↦ subst (λ (x : Found). (Some g ≡ Some x) × (fits in_term x.symbol.kind ≡ true)) (ok_is g f h.1) (refl, h.0)
+    elim (chosen (fits_place in_term g.symbol.kind) (Ok g) (fault at Undeclared) (Ok f) e) [
+      | inl h ↦ subst (λ (x : Found). (Some g ≡ Some x) × (fits_place in_term x.symbol.kind ≡ true)) (ok_is g f h.1) (refl, h.0)
       | inr h ↦ absurd (fault_not at Undeclared f h.1)
     ]
 

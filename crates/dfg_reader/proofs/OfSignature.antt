@@ -20,7 +20,7 @@ use Rattle.dfg_reader.specs.declared.formula.Formula.TheViews.{rolls-True, rolls
 use Rattle.dfg_reader.specs.declared.formula.Formula.TheFolds.{fold-roll-Formula}
 use Rattle.dfg_reader.specs.declared.problem.Entry.{Entry}
 use Rattle.dfg_reader.specs.declared.problem.Problem.{Problem}
-use Rattle.dfg_reader.specs.Terms.{fits}
+use Rattle.dfg_reader.specs.Terms.{fits_place}
 use Rattle.dfg_reader.specs.OfSignature.{declares, is_declared, term_of_step, is_term_of, is_atom_of, formula_of_step, is_formula_of, AreOfSignature}
 use Rattle.dfg_reader.proofs.Phrases.{arguments_hold, separated_hold, entries_hold}
 use Rattle.dfg_reader.specs.Grammar.{Phrase, IsSymbol, application, term, atom, unsigned, literal, body, clause, IsWritten}
@@ -39,7 +39,7 @@ module _ (bytes : List ℕ) (symbols : List Declared) where
 
   symbol_declared : (in_term : Bool) (s : Symbol) (count : ℕ) (name : List ℕ) → IsSymbol symbols in_term s count name → is_declared symbols in_term s count ≡ true
   symbol_declared in_term s count name is =
-      and_from (fits in_term s.kind) (declares (slice_get symbols s.number) s.kind count) is.0
+      and_from (fits_place in_term s.kind) (declares (slice_get symbols s.number) s.kind count) is.0
       (ap (λ o. declares o s.kind count) is.1 ∙ and_from (kind_eq s.kind s.kind) (count == count) (same_kind s.kind) (eq-eqb count count refl))
 
   application_of : (in_term : Bool) (P : Term → Phrase) → ((t : Term) (ts rest : List Token) → P t ts rest → is_term_of symbols t ≡ true)

@@ -51,7 +51,7 @@ first_spelled (w ∷ ws) text =
 
 -- the words in the order in which they are looked up
 abbrev every_word : List Word
-every_word = words.BeginProblem ∷ words.EndProblem ∷ words.EndOfList ∷ words.ListOfDescriptions ∷ words.ListOfSymbols ∷ words.ListOfClauses ∷ words.ListOfDeclarations ∷ words.ListOfFormulae ∷ words.ListOfProof ∷ words.ListOfSettings ∷ words.ListOfTerms ∷ words.ListOfSpecialFormulae ∷ words.ListOfIncludes ∷ words.Name ∷ words.Author ∷ words.Version ∷ words.Logic ∷ words.Description ∷ words.Date ∷ words.Status ∷ words.Satisfiable ∷ words.Unsatisfiable ∷ words.Unknown ∷ words.Functions ∷ words.Predicates ∷ words.Sorts ∷ words.Operators ∷ words.Quantifiers ∷ words.Translpairs ∷ words.Axioms ∷ words.Conjectures ∷ words.Cnf ∷ words.Dnf ∷ words.Clause ∷ words.Forall ∷ words.Exists ∷ words.Not ∷ words.And ∷ words.Or ∷ words.Implies ∷ words.Implied ∷ words.Equiv ∷ words.Equal ∷ words.True ∷ words.False ∷ []
+every_word = words.Name ∷ words.Date ∷ words.Cnf ∷ words.Dnf ∷ words.Not ∷ words.And ∷ words.Or ∷ words.True ∷ words.Logic ∷ words.Sorts ∷ words.Equiv ∷ words.Equal ∷ words.False ∷ words.Author ∷ words.Status ∷ words.Axioms ∷ words.Clause ∷ words.Forall ∷ words.Exists ∷ words.Version ∷ words.Unknown ∷ words.Functions ∷ words.Predicates ∷ words.Operators ∷ words.Implies ∷ words.Implied ∷ words.EndProblem ∷ words.EndOfList ∷ words.Description ∷ words.Satisfiable ∷ words.Quantifiers ∷ words.Translpairs ∷ words.Conjectures ∷ words.BeginProblem ∷ words.ListOfDescriptions ∷ words.ListOfSymbols ∷ words.ListOfClauses ∷ words.ListOfDeclarations ∷ words.ListOfFormulae ∷ words.ListOfProof ∷ words.ListOfSettings ∷ words.ListOfTerms ∷ words.ListOfSpecialFormulae ∷ words.ListOfIncludes ∷ words.Unsatisfiable ∷ []
 
 word_spelled : (w : Word) (text : List ℕ) → (spelling w ≡ [] → ⊥) → word_of text ≡ w → text ≡ spelling w
 unfolding word_of

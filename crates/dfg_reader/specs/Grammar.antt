@@ -23,7 +23,7 @@ use Rattle.dfg_reader.specs.declared.problem.Entry.{Entry}
 use Rattle.dfg_reader.specs.declared.problem.Problem.{Problem}
 use Rattle.dfg_reader.specs.Reading.{is_reserved, place}
 use Rattle.dfg_reader.specs.Symbols.{arity_of}
-use Rattle.dfg_reader.specs.Terms.{fits}
+use Rattle.dfg_reader.specs.Terms.{fits_place}
 use Rattle.dfg_reader.specs.GroundClauses.{HasLimits}
 
 -- ---- phrases
@@ -105,7 +105,7 @@ arguments P (x ∷ xs) = enclosed (comma_separated P (x ∷ xs))
 
 -- the symbol is declared, fits its place, and has so many arguments and this name
 abbrev pub IsSymbol : List Declared → Bool → Symbol → ℕ → List ℕ → Type 0
-IsSymbol symbols in_term s count name = (fits in_term s.kind ≡ true) × (slice_get symbols s.number ≡ Some (record { name = name; arity = count; kind = s.kind }))
+IsSymbol symbols in_term s count name = (fits_place in_term s.kind ≡ true) × (slice_get symbols s.number ≡ Some (record { name = name; arity = count; kind = s.kind }))
 
 abbrev pub symbol : List ℕ → List Declared → Bool → Symbol → ℕ → Phrase
 symbol bytes symbols in_term s count = token (λ t. (name : List ℕ) × IsSymbol symbols in_term s count name × IsNameOf bytes name t)

@@ -12,7 +12,7 @@ use Rattle.spl_symbols.specs.Symbols.{Declared}
 use Rattle.dfg_reader.specs.declared.formula.Formula.{Formula, Formula-F, fold-Formula}
 use Rattle.dfg_reader.specs.declared.formula.Formula.TheOpen as layer
 use Rattle.dfg_reader.specs.declared.problem.Entry.{Entry}
-use Rattle.dfg_reader.specs.Terms.{fits}
+use Rattle.dfg_reader.specs.Terms.{fits_place}
 
 abbrev pub declares : Option Declared → Kind → ℕ → Bool
 declares None kind count = false
@@ -20,7 +20,7 @@ declares (Some d) kind count = kind_eq d.kind kind && (d.arity == count)
 
 -- whether the symbol is declared with its kind and with so many arguments, and may stand in a term's place, or else in an atom's
 abbrev pub is_declared : List Declared → Bool → Symbol → ℕ → Bool
-is_declared symbols in_term s count = fits in_term s.kind && declares (slice_get symbols s.number) s.kind count
+is_declared symbols in_term s count = fits_place in_term s.kind && declares (slice_get symbols s.number) s.kind count
 
 abbrev pub term_of_step : List Declared → Term-F Bool → Bool
 term_of_step symbols (term_layer.Var v) = true

@@ -17,14 +17,14 @@ use Rattle.dfg_reader.specs.Reading.{◌>>=◌, tail, fault, next_mark, mark_at,
 use Rattle.dfg_reader.specs.Symbols.{lookup}
 
 -- a function stands in a term's place, a predicate or a sort in an atom's
-abbrev pub fits : Bool → Kind → Bool
-fits in_term kinds.Function = in_term
-fits in_term kinds.Predicate = if in_term then false else true
-fits in_term kinds.Sort = if in_term then false else true
+abbrev pub fits_place : Bool → Kind → Bool
+fits_place in_term kinds.Function = in_term
+fits_place in_term kinds.Predicate = if in_term then false else true
+fits_place in_term kinds.Sort = if in_term then false else true
 
 abbrev pub fitting : Bool → ℕ → Option Found → Result Found ReadFault
 fitting in_term at None = fault at Undeclared
-fitting in_term at (Some f) = if fits in_term f.symbol.kind then Ok f else fault at Undeclared
+fitting in_term at (Some f) = if fits_place in_term f.symbol.kind then Ok f else fault at Undeclared
 
 -- the symbol that the name stands for in its place
 unfoldable pub symbol_named : List ℕ → List Declared → Bool → Token → Result Found ReadFault

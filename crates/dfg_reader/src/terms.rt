@@ -2,7 +2,7 @@
 
 ghost use Rattle.std.specs.Prelude.{◌≡◌, ◌++◌, ◌+◌, [], ◌∷◌, length};
 ghost use Rattle.dfg_reader.specs.Reading.{Gives, commas};
-ghost use Rattle.dfg_reader.specs.Terms.{fits, fitting, symbol_named, checked_arity, too_deep, terms_at, arguments_at, application_at, term_at, atom_at};
+ghost use Rattle.dfg_reader.specs.Terms.{fits_place, fitting, symbol_named, checked_arity, too_deep, terms_at, arguments_at, application_at, term_at, atom_at};
 
 use crate::declarations::lookup;
 use crate::fault::{FaultKind, InputError, Limit, ReadFault};
@@ -14,8 +14,8 @@ use spl_terms::{Atom, Items, Kind, Symbol, Term};
 use std::alloc::Global;
 
 /// Whether a symbol of this kind may stand in a term's place, or else in an atom's.
-fn fits(in_term: bool, kind: Kind) -> bool
-    ensures { result ≡ fits in_term kind }
+fn fits_place(in_term: bool, kind: Kind) -> bool
+    ensures { result ≡ fits_place in_term kind }
 {
     match kind {
         Kind::Function => in_term,
@@ -28,7 +28,7 @@ fn fitting(in_term: bool, at: usize, found: Option<Found>) -> Result<Found, Inpu
     ensures { Gives (λ x. x) result (fitting in_term at found) }
 {
     match found {
-        Some(found) if fits(in_term, found.symbol.kind) => Ok(found),
+        Some(found) if fits_place(in_term, found.symbol.kind) => Ok(found),
         _ => Err(InputError::Fault(ReadFault {
             at,
             kind: FaultKind::Undeclared,
