@@ -12,9 +12,11 @@ mod ordering;
 mod own;
 mod pairs;
 mod premises;
+mod raising;
 mod resolution;
 mod rewriting;
 mod unifiers;
+mod upper;
 
 pub use calculus::Kept;
 pub use error::InferError;
