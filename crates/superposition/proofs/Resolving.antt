@@ -1,6 +1,6 @@
 -- Facts about resolution.
-use Rattle.std.proofs.Common.{◌≡◌, ℕ, ◌+◌, ◌<◌, arith, true, ◌&&◌, if◌then◌else◌, List, [], ◌∷◌, length, take, drop, Option, Some, None, option_map, sym, ap, ◌∙◌, subst}
-use Rattle.std.specs.Prelude.{option_to_list}
+use Rattle.std.proofs.Common.{◌≡◌, ℕ, ◌+◌, ◌<◌, arith, true, ◌&&◌, if◌then◌else◌, List, [], ◌∷◌, length, take, drop, Option, Some, None, option_map, sym, ap, ◌∙◌, subst, map, Bool, false, refl}
+use Rattle.std.specs.Prelude.{option_to_list, slice_get}
 use Rattle.std.specs.Borrow.{Bor}
 use Rattle.std.specs.List.{AllByRecursion, flat_map, enumerate_from}
 use Rattle.std.proofs.lemmas.List.Elements.{All-from_recursion}
@@ -8,9 +8,11 @@ use Rattle.std.proofs.lemmas.List.Folds.{flat_map-map}
 use Rattle.spl_terms.specs.declared.term.Term.{Term}
 use Rattle.spl_terms.specs.declared.atom.Atom.{Atom}
 use Rattle.spl_terms.specs.declared.clause.Part.{Part}
-use Rattle.spl_terms.specs.declared.clause.Part.TheVariants.{Succedent}
+use Rattle.spl_terms.specs.declared.clause.Part.TheVariants.{Constraint, Antecedent, Succedent}
 use Rattle.spl_terms.specs.declared.clause.Clause.{Clause}
-use Rattle.spl_terms.specs.Clauses.{in_order, part_of, atom_variables}
+use Rattle.spl_terms.specs.Clauses.{in_order, part_of, atom_variables, replace_in_atom}
+use Rattle.spl_truth.specs.Truth.{entry, apply}
+use Rattle.spl_truth.specs.TruthLaws.{map-remove}
 use Rattle.spl_terms.specs.InOrder.{variables}
 use Rattle.spl_terms.specs.VariableLaws.{has}
 use Rattle.spl_truth.specs.declared.replace.Subst.{Subst}
@@ -18,8 +20,9 @@ use Rattle.dep_sets.specs.Assumptions.{united}
 use Rattle.proof_steps.specs.declared.step.Rule.TheVariants.{Resolve}
 use Rattle.proof_steps.specs.declared.step.Line.{Line}
 use Rattle.proof_steps.specs.Spots.{atom_at}
-use Rattle.proof_steps.specs.Steps.{may_resolve, resolvent, resolved, resolution, has_entries, states}
-use Rattle.proof_steps.specs.StepLaws.{may_resolve-below}
+use Rattle.proof_steps.specs.declared.step.Statement.{Statement}
+use Rattle.proof_steps.specs.Steps.{is_negative, both_same, without, joined, may_resolve, resolvent, resolution, has_entries, states}
+use Rattle.calculus.specs.Found.{ResolventsAreFound}
 use Rattle.calculus.specs.declared.kept.Kept.{Kept}
 use Rattle.calculus.specs.Inferences.{clause_of, variables_of_both, first_part, second_part, by_entries, by_unifier_of_both, atom_unifier, eligible_in, renamed_apart, resolve, resolutions}
 use Rattle.calculus.specs.LiftingLaws.{first_fits, second_fits, atom_below, all_below, renamed_apart_below}
@@ -29,11 +32,6 @@ use Rattle.superposition.specs.Pairs.{IsPair}
 use Rattle.superposition.proofs.Stating.{stated_line, both_line}
 use Rattle.superposition.proofs.Lists.{each_kept, each_placed}
 
-pub resolved-there : (i : ℕ) (part : Part) (j : ℕ) (p q : Clause) → may_resolve i part j p q ≡ true → resolved i part j p q ≡ Some (in_order (resolvent i part j p q))
-resolved-there i part j p q e = ap (λ b. if b then Some (in_order (resolvent i part j p q)) else None) e
-
-pub ruleset resolved_rules = (may_resolve-below)
-
 -- ---- the two parts of a unifier
 
 pub parts_fit : (p q : Kept) (first both : ℕ) (u s t : List Term) → first ≡ variables (clause_of p) → both ≡ variables_of_both p q → length u ≡ both → s ≡ take first u → t ≡ drop first u → (has_entries s (clause_of p) && has_entries t (clause_of q)) ≡ true
@@ -42,6 +40,13 @@ parts_fit p q first both u s t n m long is other =
     let left : has_entries s (clause_of p) ≡ true = ap (λ x. has_entries x (clause_of p)) (is ∙ ap (λ k. take k u) n) ∙ first_fits p q u exact in
     let right : has_entries t (clause_of q) ≡ true = ap (λ x. has_entries x (clause_of q)) (other ∙ ap (λ k. drop k u) n) ∙ second_fits p q u exact in
     λ k. left k && right k
+
+-- ---- instances without an atom
+
+pub apply-without : (part : Part) (j : ℕ) (s : List Term) (c : Clause) → apply s (without part j c) ≡ without part j (apply s c)
+apply-without Constraint j s c = λ k. record { constraint = map-remove (entry s) c.constraint j k; antecedent = map (replace_in_atom (entry s)) c.antecedent; succedent = map (replace_in_atom (entry s)) c.succedent }
+apply-without Antecedent j s c = λ k. record { constraint = map (replace_in_atom (entry s)) c.constraint; antecedent = map-remove (entry s) c.antecedent j k; succedent = map (replace_in_atom (entry s)) c.succedent }
+apply-without Succedent j s c = λ k. record { constraint = map (replace_in_atom (entry s)) c.constraint; antecedent = map (replace_in_atom (entry s)) c.antecedent; succedent = map-remove (entry s) c.succedent j k }
 
 -- ---- lines
 
@@ -70,6 +75,48 @@ module _ (pair : Pair) (known : IsPair pair) (part : Part) (i j : ℕ) (a b : At
       ap option_to_list (both_line p q (Resolve i part j s t) made _ e)
       ∙ (λ k. option_to_list (option_map (stated_line (Resolve i part j (left k) (right k)) (p.number ∷ q.number ∷ [])) (option_map (λ c. states c deps) (resolution i part j (left k).terms (right k).terms (clause_of p) (clause_of q)))))
       ∙ sym (whole (Some u) unified)
+
+  -- no atom of the succedent is resolved with a second one
+  none_of : {A B : Type 0} (f : A → B) (g : Clause → A) (c : Clause) (fit : Bool) → option_to_list (option_map f (option_map g (if fit then (if false then Some c else None) else None))) ≡ []
+  none_of f g c true = refl
+  none_of f g c false = refl
+
+  pub not_negative : is_negative part ≡ false → [] ≡ resolve part p q (i, a) (j, b)
+  not_negative succedent = sym (by_unifier (atom_unifier (variables_of_both p q) a (renamed_apart p b)))
+    where
+      by_unifier : (o : Option (List Term)) → lines o ≡ []
+      by_unifier None = refl
+      by_unifier (Some u) =
+          let s : List Term = (first_part p u).terms in
+          let t : List Term = (second_part p u).terms in
+          let x : Clause = apply s (clause_of p) in
+          let y : Clause = apply t (clause_of q) in
+          let stated : Statement → Line = stated_line (Resolve i part j (first_part p u) (second_part p u)) (p.number ∷ q.number ∷ []) in
+          let deps = united p.statement.deps q.statement.deps in
+          ap (λ n. option_to_list (option_map stated (option_map (λ c. states c deps) (if has_entries s (clause_of p) && has_entries t (clause_of q) then (if n && both_same (slice_get x.succedent i) (slice_get (part_of y part) j) then Some (in_order (resolvent i part j x y)) else None) else None)))) succedent
+          ∙ none_of stated (λ c. states c deps) (in_order (resolvent i part j x y)) (has_entries s (clause_of p) && has_entries t (clause_of q))
+
+  -- what a unifier of two literals concludes
+  one_of : {A B : Type 0} (f : A → B) (g : Clause → A) (c : Clause) (fit may : Bool) (l : B) → option_to_list (option_map f (option_map g (if fit then (if may then Some c else None) else None))) ≡ l ∷ [] → (if fit then (if may then Some c else None) else None) ≡ Some c
+  one_of f g c true true l e = refl
+  one_of f g c true false l e = absurd (cc)
+  one_of f g c false may l e = absurd (cc)
+
+  pub resolution_is : ResolventsAreFound → is_negative part ≡ true → atom_at Succedent i (clause_of p) ≡ Some a → atom_at part j (clause_of q) ≡ Some b → (u : List Term) (s t : Subst) (made : Clause) → atom_unifier pair.both a (renamed_apart p b) ≡ Some u → s.terms ≡ take pair.first u → t.terms ≡ drop pair.first u → made ≡ joined (apply s.terms (without Succedent i (clause_of p))) (apply t.terms (without part j (clause_of q))) →
+      option_map in_order (Some made) ≡ resolution i part j s.terms t.terms (clause_of p) (clause_of q)
+  resolution_is law negative here there u s t made unified is other built =
+      let left : s ≡ first_part p u = ap by_entries (is ∙ ap (λ k. take k u) known.first) in
+      let right : t ≡ second_part p u = ap by_entries (other ∙ ap (λ k. drop k u) known.first) in
+      let x : Clause = apply (first_part p u).terms (clause_of p) in
+      let y : Clause = apply (second_part p u).terms (clause_of q) in
+      let line = law p q known.p_in_order known.q_in_order part negative i j a b u here there (ap (λ k. atom_unifier k a (renamed_apart p b)) (sym known.both) ∙ unified) in
+      let found = sym (whole (Some u) unified) ∙ line.1 in
+      let all : resolution i part j (first_part p u).terms (second_part p u).terms (clause_of p) (clause_of q) ≡ Some (in_order (resolvent i part j x y)) =
+      one_of (stated_line (Resolve i part j (first_part p u) (second_part p u)) (p.number ∷ q.number ∷ [])) (λ c. states c (united p.statement.deps q.statement.deps)) (in_order (resolvent i part j x y)) (has_entries (first_part p u).terms (clause_of p) && has_entries (second_part p u).terms (clause_of q)) (may_resolve i part j x y) line.0 found in
+      let same : made ≡ resolvent i part j x y = built
+      ∙ (λ k. joined (apply (left k).terms (without Succedent i (clause_of p))) (apply (right k).terms (without part j (clause_of q))))
+      ∙ (λ k. joined (apply-without Succedent i (first_part p u).terms (clause_of p) k) (apply-without part j (second_part p u).terms (clause_of q) k)) in
+      ap (λ c. Some (in_order c)) same ∙ sym all ∙ (λ k. resolution i part j (sym left k).terms (sym right k).terms (clause_of p) (clause_of q))
 
 -- ---- variables of the atoms
 

@@ -5,6 +5,7 @@
 #![tactic(auto)]
 
 mod appending;
+mod building;
 mod equations;
 mod error;
 mod inferring;

@@ -1,11 +1,11 @@
 //! Resolution.
-ghost use Rattle.std.specs.Prelude.{◌≡◌, ◌≤◌, ◌&&◌, Some, true, option_map, IfOk};
+ghost use Rattle.std.specs.Prelude.{◌≡◌, ◌≤◌, Some};
 ghost use Rattle.std.specs.List.{flat_map};
-ghost use Rattle.spl_terms.specs.Clauses.{clause_symbols, in_order};
+ghost use Rattle.spl_terms.specs.Clauses.{clause_symbols};
 ghost use Rattle.spl_terms.specs.InOrder.{IsInOrder};
 ghost use Rattle.spl_terms.specs.declared.clause.Part.TheVariants.{Antecedent, Succedent};
 ghost use Rattle.proof_steps.specs.Spots.{atom_at};
-ghost use Rattle.proof_steps.specs.Steps.{has_entries, resolved, resolution};
+ghost use Rattle.proof_steps.specs.Steps.{is_negative};
 ghost use Rattle.calculus.specs.Inferences.{clause_of, resolve, resolutions};
 ghost use Rattle.superposition.specs.Appending.{Appended};
 ghost use Rattle.superposition.specs.Words.{AreInPlace};
@@ -13,54 +13,24 @@ ghost use Rattle.superposition.specs.Pairs.{IsPair};
 ghost use Rattle.superposition.specs.Premises.{IsFound};
 
 use crate::appending::append_from_both;
+use crate::building::{Literals, resolvent_of};
 use crate::error::InferError;
 use crate::pairs::Pair;
 use crate::premises::{Premise, eligible_in, variables};
 use crate::unifiers::unifier_apart;
-use calculus::Kept;
-use proof_steps::{Line, Rule, joined, may_resolve, without};
-use spl_terms::{Atom, Clause, Part};
-use spl_truth::{Subst, instance};
-use std::alloc::{AllocError, Global};
+use calculus::{Kept, no_unifier_is_lost};
+use proof_steps::{Line, Rule};
+use spl_terms::{Atom, Part};
+use std::alloc::Global;
 
-/// The literals that are resolved: a place of the succedent of the first premise, and one of a part of the second one.
-#[derive(Clone, Copy, Debug)]
-struct Literals {
-    i: u32,
-    part: Part,
-    j: u32,
-}
-
-/// What resolution concludes from two instances, before it is put in order.
-#[tactic(auto, using(crate::proofs::Resolving::resolved_rules))]
-fn resolved(literals: Literals, p: Clause, q: Clause) -> Result<Option<Clause>, AllocError>
-    ensures { IfOk result (λ made. option_map in_order made ≡ resolved literals.i literals.part literals.j p q) }
+/// Whether atoms of this part are false where the clause is true by it.
+fn is_negative(part: Part) -> bool
+    ensures { result ≡ is_negative part }
 {
-    let Literals { i, part, j } = literals;
-    if !may_resolve(i, part, j, &p, &q) {
-        return Ok(None);
+    match part {
+        Part::Constraint | Part::Antecedent => true,
+        Part::Succedent => false,
     }
-    let first = without(Part::Succedent, i as usize, p);
-    let second = without(part, j as usize, q);
-    Ok(Some(joined(first, second)?))
-}
-
-/// What resolution concludes by these substitutions, before it is put in order.
-fn resolved_by(
-    alloc: Global,
-    p: &Clause,
-    q: &Clause,
-    literals: Literals,
-    s: &Subst,
-    t: &Subst,
-) -> Result<Option<Clause>, AllocError>
-    requires { (has_entries s.now.terms p.now && has_entries t.now.terms q.now) ≡ true }
-    ensures { IfOk result (λ made. option_map in_order made ≡
-        resolution literals.i literals.part literals.j s.now.terms t.now.terms p.now q.now) }
-{
-    let first = instance(alloc, s, p)?;
-    let second = instance(alloc, t, q)?;
-    resolved(literals, first, second)
 }
 
 /// Resolves an atom of the succedent of p with an atom of this part of q, if they have a unifier.
@@ -80,16 +50,20 @@ fn resolve(
         (first.entry.0, first.entry.1.now) (second.entry.0, second.entry.1.now))
         out.old.items out.new.items result }
 {
+    no_unifier_is_lost();
     let (i, a) = first;
     let (j, b) = second;
+    if !is_negative(part) {
+        return Ok(());
+    }
     let Some((s, t)) = unifier_apart(alloc, pair, a, b)? else {
         return Ok(());
     };
     let literals = Literals { i, part, j };
     let (p, q) = (&pair.p.statement.clause, &pair.q.statement.clause);
-    let made = resolved_by(alloc, p, q, literals, &s, &t)?;
+    let made = resolvent_of(alloc, literals, (p, &s), (q, &t))?;
     let rule = Rule::Resolve { i, part, j, s, t };
-    append_from_both(alloc, pair.p, pair.q, made, rule, out)
+    append_from_both(alloc, pair.p, pair.q, Some(made), rule, out)
 }
 
 /// Resolves an atom of the succedent of p with each of these atoms of this part of q.
