@@ -1,5 +1,5 @@
 -- Facts about the inferences of one clause alone.
-use Rattle.std.proofs.Common.{◌≡◌, ℕ, ◌<◌, Bool, true, false, ◌==◌, if◌then◌else◌, All, List, [], ◌∷◌, ◌++◌, length, map, Option, Some, None, option_map, option_and_then, refl, sym, ap, ◌∙◌, subst, eq-eqb}
+use Rattle.std.proofs.Common.{◌≡◌, ℕ, ◌<◌, Bool, true, false, ◌==◌, if◌then◌else◌, List, [], ◌∷◌, ◌++◌, length, map, Option, Some, None, option_map, option_and_then, refl, sym, ap, ◌∙◌, subst, eq-eqb}
 use Rattle.std.specs.Prelude.{filter, not, option_to_list}
 use Rattle.std.specs.Borrow.{Bor}
 use Rattle.std.specs.List.{AllByRecursion, flat_map, enumerate_from}
@@ -64,22 +64,31 @@ length-sides_unifier vars (Equal s t) u e = length-unifier vars s t u e
 pub reflection_fits : (p : Kept) (a : Atom) (vars : ℕ) (u : List Term) → vars ≡ variables (clause_of p) → sides_unifier vars a ≡ Some u → has_entries u (clause_of p) ≡ true
 reflection_fits p a vars u n unified = unifier_fits p vars u n (length-sides_unifier vars a u unified)
 
+-- what is kept by a test was there before
+pub kept_length : (vars : ℕ) (f : List Term → Bool) (o : Option (List Term)) (u : List Term) → ((w : List Term) → o ≡ Some w → length w ≡ vars) → option_and_then (λ w. when (f w) w) o ≡ Some u → length u ≡ vars
+kept_length vars f None u h e = absurd (cc)
+kept_length vars f (Some w) u h e = by_test (f w) e
+  where
+    by_test : (b : Bool) → when b w ≡ Some u → length u ≡ vars
+    by_test true q = let same : w ≡ u = cc in subst (λ x. length x ≡ vars) same (h w refl)
+    by_test false q = absurd (cc)
+
 module _ (p : Kept) (e d : Reading) (vars : ℕ) (n : vars ≡ variables (clause_of p)) where
-  abbrev fitting : Option (List Term) → Option (List Term)
-  fitting = option_and_then (λ u. when (is_not_below u e.left_side e.right_side) u)
+  known : (o : Option (List Term)) → factoring_unifier vars e d ≡ o → factoring_unifier (variables (clause_of p)) e d ≡ o
+  known o unified = ap (λ k. factoring_unifier k e d) (sym n) ∙ unified
 
-  known : (o : Option (List Term)) → unifier vars e.left_side d.left_side ≡ o → factoring_unifier (variables (clause_of p)) e d ≡ fitting o
-  known o unified = ap fitting (ap (λ k. unifier k e.left_side d.left_side) (sym n) ∙ unified)
+  pub equation_fits : (u : List Term) → factoring_unifier vars e d ≡ Some u → has_entries u (clause_of p) ≡ true
+  equation_fits u unified = unifier_fits p vars u n (kept_length vars (λ u. is_not_below u e.left_side e.right_side) (unifier vars e.left_side d.left_side) u (λ w. length-unifier vars e.left_side d.left_side w) unified)
 
-  pub equation_fits : (u : List Term) → unifier vars e.left_side d.left_side ≡ Some u → has_entries u (clause_of p) ≡ true
-  equation_fits u unified = unifier_fits p vars u n (length-unifier vars e.left_side d.left_side u unified)
-
-  pub equation_line : (s : Subst) (made : Option Clause) → (e.place ≡ d.place → ⊥) → unifier vars e.left_side d.left_side ≡ Some s.terms → is_not_below s.terms e.left_side e.right_side ≡ true → option_map in_order made ≡ equality_factoring e.place e.right d.place d.right s.terms (clause_of p) →
+  pub equation_line : (s : Subst) (made : Option Clause) → (e.place ≡ d.place → ⊥) → factoring_unifier vars e d ≡ Some s.terms → option_map in_order made ≡ equality_factoring e.place e.right d.place d.right s.terms (clause_of p) →
       option_to_list (option_map (line_of p (EqFactor e.place e.right d.place d.right s)) made) ≡ factor_apart p e d
-  equation_line s made apart unified high is =
+  equation_line s made apart unified is =
       ap option_to_list (own_line p (EqFactor e.place e.right d.place d.right s) made _ is)
-      ∙ sym (ap (by_unifier p (EqFactor e.place e.right d.place d.right)) (known (Some s.terms) unified ∙ ap (λ t. when t s.terms) high))
+      ∙ sym (ap (by_unifier p (EqFactor e.place e.right d.place d.right)) (known (Some s.terms) unified))
       ∙ sym (ap (λ t. if not t then factor_equation p e d else []) (ne_eqb d.place e.place (λ e. apart (sym e))))
+
+  pub no_equation_line : factoring_unifier vars e d ≡ None → [] ≡ factor_apart p e d
+  no_equation_line none = none_either_way (not (d.place == e.place)) (factor_equation p e d) (ap (by_unifier p (EqFactor e.place e.right d.place d.right)) (known None none))
 
 -- ---- variables
 
@@ -210,3 +219,10 @@ equality_factorings_are p made held others lends is same all there =
         ∙ ap (flat_map (factor_apart p e)) (ap (map reading_of) there ∙ all)
         ∙ flat_map-filter (factor_equation p e) (λ d. not (d.place == e.place)) (flat_map readings (enumerate_from 0 (clause_of p).succedent))
         ∙ ap (flat_map (factor_equation p e)) (other_readings e.place (enumerate_from 0 (clause_of p).succedent))
+
+none_held : (made : List Equation) → length made ≡ 0 → made ≡ []
+none_held [] e = refl
+none_held (e ∷ made) n = absurd (cc)
+
+pub no_equality_factorings : (p : Kept) (made held : List Equation) → map reading_of made ≡ equations_of p → held ≡ made → length held ≡ 0 → [] ≡ equality_factorings p
+no_equality_factorings p made held is same none = ap (flat_map (λ e. flat_map (factor_equation p e) (flat_map readings (other_atoms e.place p)))) (sym (ap (map reading_of) (none_held held none)) ∙ ap (map reading_of) same ∙ is)

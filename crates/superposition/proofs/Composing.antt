@@ -1,51 +1,17 @@
--- Lists that are appended one after the other.
-use Rattle.std.proofs.Common.{◌≡◌, ℕ, zero, suc, ◌+◌, ◌<◌, ◌≤◌, arith, List, [], ◌∷◌, ◌++◌, length, drop, get_or, refl, sym, ap, ◌∙◌, subst}
+-- Loops that append the lists of one element after the other.
+use Rattle.std.proofs.Common.{◌≡◌, ℕ, zero, suc, ◌+◌, ◌<◌, ◌≤◌, arith, List, [], ◌∷◌, ◌++◌, length, drop, get_or, refl, sym, ap, subst, append-nil}
 use Rattle.std.specs.Prelude.{Result, Ok, Err}
-use Rattle.std.specs.List.{AllByRecursion, flat_map}
+use Rattle.std.specs.List.{flat_map}
 use Rattle.proof_steps.specs.declared.step.Line.{Line}
-use Rattle.superposition.proofs.Lists.{assoc, nil_right, drop_at}
+use Rattle.superposition.proofs.Lists.{drop_at}
 use Rattle.superposition.specs.declared.error.InferError.{InferError}
-use Rattle.superposition.specs.declared.error.InferError.TheVariants.{Big, Memory}
-use Rattle.superposition.specs.Appending.{Fits, StopsBefore, IsPrefixAppended, Appended}
-
-both_fit : (xs ys : List Line) → AllByRecursion Fits xs → AllByRecursion Fits ys → AllByRecursion Fits (xs ++ ys)
-both_fit [] ys h k = k
-both_fit (x ∷ xs) ys h k = (h.0, both_fit xs ys h.1 k)
-
-pub nothing : {T : Type 0} (old : List Line) (t : T) → Appended [] old old (Ok t)
-nothing old t = (nil_right old, tt)
-
-stops_sooner : (e : InferError) (left more : List Line) → StopsBefore e left → StopsBefore e (left ++ more)
-stops_sooner (Big n) [] more h = absurd h
-stops_sooner (Big n) (l ∷ left) more h = h
-stops_sooner Memory left more h = tt
-
--- the whole of one list, and then what comes of another
-pub then_more : {S T : Type 0} (xs ys old mid new : List Line) (s : S) (r : Result T InferError) → Appended xs old mid (Ok s) → Appended ys mid new r → Appended (xs ++ ys) old new r
-then_more xs ys old mid new s (Ok t) h k = (k.0 ∙ ap (λ l. l ++ ys) h.0 ∙ assoc old xs ys, both_fit xs ys h.1 k.1)
-then_more xs ys old mid new s (Err e) h k = record {
-  done = xs ++ k.done;
-  left = k.left;
-  parts = ap (λ l. xs ++ l) k.parts ∙ sym (assoc xs k.done k.left);
-  appended = k.appended ∙ ap (λ l. l ++ k.done) h.0 ∙ assoc old xs k.done;
-  fit = both_fit xs k.done h.1 k.fit;
-  stopped = k.stopped;
-}
-
--- an error comes before all that would follow
-pub then_none : (xs ys old new : List Line) (e : InferError) → IsPrefixAppended xs old new e → IsPrefixAppended (xs ++ ys) old new e
-then_none xs ys old new e h = record {
-  done = h.done;
-  left = h.left ++ ys;
-  parts = ap (λ l. l ++ ys) h.parts ∙ assoc h.done h.left ys;
-  appended = h.appended;
-  fit = h.fit;
-  stopped = stops_sooner e h.left ys h.stopped;
-}
+use Rattle.superposition.specs.declared.error.InferError.TheVariants.{Memory}
+use Rattle.superposition.specs.Appending.{IsPrefixAppended, Appended}
+use Rattle.superposition.specs.AppendingLaws.{nothing, then_more, then_none}
 
 -- memory can fail before anything
 pub no_memory : (xs old : List Line) → IsPrefixAppended xs old old Memory
-no_memory xs old = record { done = []; left = xs; parts = refl; appended = nil_right old; fit = tt; stopped = tt }
+no_memory xs old = record { done = []; left = xs; parts = refl; appended = sym (append-nil old); fit = tt; stopped = tt }
 
 -- ---- loops
 

@@ -1,6 +1,7 @@
 pub mod Lists
 pub mod Composing
 pub mod Unified
+pub mod Bound
 pub mod Stating
 pub mod Resolving
 pub mod Compared

@@ -1,15 +1,7 @@
 -- Lists whose elements are taken one by one.
-use Rattle.std.proofs.Common.{◌≡◌, ℕ, zero, suc, ◌+◌, ◌<◌, Bool, true, false, if◌then◌else◌, List, [], ◌∷◌, ◌++◌, length, map, drop, get_or, Some, refl, sym, ap, ◌∙◌, subst, arith}
+use Rattle.std.proofs.Common.{◌≡◌, ℕ, zero, suc, ◌+◌, ◌<◌, Bool, true, false, if◌then◌else◌, List, [], ◌∷◌, ◌++◌, length, map, drop, get_or, Some, refl, sym, ap, ◌∙◌, subst, arith, append_assoc}
 use Rattle.std.specs.Prelude.{filter, slice_get}
 use Rattle.std.specs.List.{AllByRecursion, enumerate_from}
-
-pub assoc : {X : Type 0} (xs ys zs : List X) → (xs ++ ys) ++ zs ≡ xs ++ (ys ++ zs)
-assoc [] ys zs = refl
-assoc (x ∷ xs) ys zs = ap (λ l. x ∷ l) (assoc xs ys zs)
-
-pub nil_right : {X : Type 0} (xs : List X) → xs ≡ xs ++ []
-nil_right [] = refl
-nil_right (x ∷ xs) = ap (λ l. x ∷ l) (nil_right xs)
 
 drop_next : {X : Type 0} (xs : List X) (k : ℕ) (x : X) → k < length xs → x ≡ get_or xs k x → drop k xs ≡ x ∷ drop (suc k) xs
 drop_next [] k x h e = absurd (omega arith)
@@ -38,7 +30,7 @@ pub kept_next : {X : Type 0} (f : ℕ × X → Bool) (xs : List X) (k : ℕ) (x 
     new ++ filter f (enumerate_from (k + 1) (drop (k + 1) xs)) ≡ old ++ filter f (enumerate_from k (drop k xs))
 kept_next f xs k x old new h e is =
     ap (λ l. l ++ filter f (enumerate_from (k + 1) (drop (k + 1) xs))) is
-    ∙ assoc old (filter f ((k, x) ∷ [])) (filter f (enumerate_from (k + 1) (drop (k + 1) xs)))
+    ∙ append_assoc old (filter f ((k, x) ∷ [])) (filter f (enumerate_from (k + 1) (drop (k + 1) xs)))
     ∙ ap (λ l. old ++ l) (kept_first f (k, x) (enumerate_from (k + 1) (drop (k + 1) xs)))
     ∙ ap (λ l. old ++ filter f (enumerate_from k l)) (sym (drop_at xs k x h e))
 
@@ -57,3 +49,9 @@ each_numbered P n (x ∷ xs) h = (h 0 x refl, each_numbered P (n + 1) xs (λ k y
 pub each_mapped : {X Y : Type 0} (P : X → Type 0) (Q : Y → Type 0) (f : X → Y) (xs : List X) → ((x : X) → P x → Q (f x)) → AllByRecursion P xs → AllByRecursion Q (map f xs)
 each_mapped P Q f [] g h = tt
 each_mapped P Q f (x ∷ xs) g h = (g x h.0, each_mapped P Q f xs g h.1)
+
+pub each_placed : {X : Type 0} (P : ℕ × X → Type 0) (n : ℕ) (xs : List X) → ((k : ℕ) (x : X) → slice_get xs k ≡ Some x → P (n + k, x)) → AllByRecursion P (enumerate_from n xs)
+each_placed P n [] h = tt
+each_placed P n (x ∷ xs) h =
+    let here : n + 0 ≡ n = omega arith in
+    (subst (λ m. P (m, x)) here (h 0 x refl), each_placed P (n + 1) xs (λ k y e. (let there : n + suc k ≡ (n + 1) + k = omega arith in subst (λ m. P (m, y)) there (h (suc k) y e))))

@@ -1,15 +1,14 @@
 -- Facts about superposition on its way through an atom.
-use Rattle.std.proofs.Common.{◌≡◌, inl, inr, ℕ, zero, suc, ◌+◌, ◌<◌, ◌≤◌, Bool, true, false, ◌&&◌, ◌==◌, List, [], ◌∷◌, ◌++◌, length, map, take, drop, get_or, Option, Some, None, option_map, option_and_then, refl, sym, ap, ◌∙◌, subst, arith}
-use Rattle.std.specs.Prelude.{option_to_list, slice_get, sum, Result, Ok, Err}
+use Rattle.std.proofs.Common.{◌≡◌, ℕ, zero, suc, ◌+◌, ◌<◌, ◌≤◌, Bool, true, false, ◌&&◌, All, List, [], ◌∷◌, ◌++◌, length, map, take, drop, get_or, Option, Some, None, option_map, option_and_then, refl, sym, ap, ◌∙◌, subst, arith, append_assoc, append-nil}
+use Rattle.std.specs.Prelude.{option_to_list, slice_get, sum, unwrap_or, Result, Ok}
 use Rattle.std.specs.Borrow.{Bor}
 use Rattle.std.specs.List.{AllByRecursion, flat_map, enumerate_from}
-use Rattle.std.proofs.lemmas.Bool.{or_cases, eqb-true}
 use Rattle.std.proofs.lemmas.Grind.{flat_map-append}
 use Rattle.std.proofs.lemmas.List.Elements.{All-from_recursion, recursion_from_All}
 use Rattle.std.proofs.lemmas.List.Folds.{flat_map-map}
 use Rattle.std.proofs.lemmas.List.FromFn.{length-enumerate_from, get_or-enumerate_from}
 use Rattle.std.proofs.lemmas.List.Sums.{sum_by-cons}
-use Rattle.std.proofs.lemmas.Option.{slice_get-get_or}
+use Rattle.std.proofs.lemmas.Option.{slice_get-get_or, slice_get-map}
 use Rattle.spl_terms.specs.declared.term.Symbol.{Symbol}
 use Rattle.spl_terms.specs.declared.term.Term.{Term, Var, App}
 use Rattle.spl_terms.specs.declared.term.Term.TheViews.{outs-App}
@@ -19,77 +18,85 @@ use Rattle.spl_terms.specs.declared.clause.Part.{Part}
 use Rattle.spl_terms.specs.declared.clause.Part.TheVariants.{Antecedent, Succedent}
 use Rattle.spl_terms.specs.declared.clause.Spot.{Spot}
 use Rattle.spl_terms.specs.declared.clause.Clause.{Clause}
-use Rattle.spl_terms.specs.Terms.{replace, term_variables, term_symbols}
-use Rattle.spl_terms.specs.Clauses.{in_order, part_of, atom_terms, atom_variables, replace_in_atom}
-use Rattle.spl_terms.specs.InOrder.{IsInOrder, variables}
-use Rattle.spl_terms.specs.TermLaws.{Each, term_induction, fold-Var, fold-App, replace-Var, replace-App}
-use Rattle.spl_terms.specs.VariableLaws.{has}
+use Rattle.spl_terms.specs.Terms.{term_variables, term_symbols}
+use Rattle.spl_terms.specs.Clauses.{in_order, atom_terms}
+use Rattle.spl_terms.specs.InOrder.{variables}
+use Rattle.spl_terms.specs.TermLaws.{fold-Var, fold-App, replace-App, term_variables-App}
 use Rattle.spl_truth.specs.declared.replace.Subst.{Subst}
-use Rattle.spl_truth.specs.Unifiers.{HasVariablesBelow, unifier}
+use Rattle.spl_truth.specs.Unifiers.{HasVariablesBelow, HaveVariablesBelow, unifier}
 use Rattle.spl_truth.specs.Orders.{is_not_below}
 use Rattle.dep_sets.specs.Assumptions.{united}
 use Rattle.proof_steps.specs.declared.step.Rule.TheVariants.{Paramodulate}
 use Rattle.proof_steps.specs.declared.step.Line.{Line}
 use Rattle.proof_steps.specs.Spots.{arguments_step, arguments_of, subterm, term_under, atom_at}
-use Rattle.proof_steps.specs.Steps.{when, states, paramodulation}
+use Rattle.proof_steps.specs.Steps.{when, states, sides_of, paramodulation}
 use Rattle.calculus.specs.declared.kept.Kept.{Kept}
-use Rattle.calculus.specs.Inferences.{Reading, clause_of, variables_of_both, first_part, second_part, by_entries, by_unifier_of_both, renamed_apart, eligible_in, equations_of, placed, paths_step, paths_in, paths_of, spots_in, spots_of, is_upper_side, rewriting_unifier, superpose, superpositions}
-use Rattle.calculus.specs.LiftingLaws.{all_below}
-use Rattle.calculus.proofs.Superposing.{term_under-inner}
+use Rattle.calculus.specs.Inferences.{Reading, clause_of, variables_of_both, first_part, second_part, by_entries, by_unifier_of_both, renamed_apart, eligible_in, readings, equations_of, paths_step, paths_in, paths_of, spots_in, spots_of, is_upper_side, rewriting_unifier, superpose, superpositions}
+use Rattle.calculus.specs.LiftingLaws.{length-unifier}
 use Rattle.superposition.specs.declared.equations.Equation.{Equation}
+use Rattle.superposition.specs.declared.pairs.Pair.{Pair}
 use Rattle.superposition.specs.declared.rewriting.Rewriting.{Rewriting}
 use Rattle.superposition.specs.declared.error.InferError.{InferError}
 use Rattle.superposition.specs.Appending.{IsPrefixAppended, Appended}
-use Rattle.superposition.specs.Words.{IsAtomBelow, line_of_both}
-use Rattle.superposition.specs.Readings.{reading_of, AreLeftSidesBelow}
-use Rattle.superposition.specs.Walks.{superpose_raised, superpose_in, superpose_in_parts, rewrite, rewrite_below, rewrite_argument}
-use Rattle.superposition.proofs.Composing.{then_more, then_none}
+use Rattle.superposition.specs.AppendingLaws.{then_more, then_none}
+use Rattle.superposition.specs.Words.{plain, IsAtomBelow, line_of_both}
+use Rattle.superposition.specs.Pairs.{IsPair, raised}
+use Rattle.superposition.specs.Readings.{reading_of, AreJudged}
+use Rattle.superposition.specs.Standings.{IsStanding}
+use Rattle.superposition.specs.Walks.{AreUsable, IsReady, IsUpperAt, IsSide, raised_atom, superpose_in, superpose_lent, superpose_in_parts, rewrite, rewrite_below, rewrite_argument}
 use Rattle.superposition.proofs.Stating.{stated_line, both_line}
-use Rattle.superposition.proofs.Resolving.{apart, first_atoms_below}
-use Rattle.superposition.proofs.Alone.{equations_below}
-use Rattle.superposition.proofs.Lists.{assoc, nil_right, each_kept}
+use Rattle.superposition.proofs.Resolving.{first_below, second_below, eligible_there}
+use Rattle.superposition.proofs.Alone.{kept_length, left_below, right_below}
+use Rattle.superposition.proofs.Skipped.{lower_raised, upper_raised}
 
 -- ---- at one place
 
 abbrev spot_at : Part → ℕ → List ℕ → Spot
 spot_at part place path = record { part = part; place = place; path = path }
 
-module _ (p q : Kept) (e : Reading) (part : Part) (place : ℕ) (b : Atom) (path : List ℕ) (w : Term) (both : ℕ) (m : both ≡ variables_of_both p q) (stands : term_under path b ≡ Some w) where
-  abbrev fitting : Option (List Term) → Option (List Term)
-  fitting = option_and_then (λ u. when (is_not_below u e.left_side e.right_side && is_upper_side u b path) u)
+module _ (r : Rewriting) (ready : IsReady r) (path : List ℕ) where
+  abbrev p : Kept
+  p = r.pair.p.now
 
-  known : (o : Option (List Term)) → unifier both e.left_side w ≡ o → rewriting_unifier (variables_of_both p q) e b path ≡ fitting o
-  known o unified =
-      ap (λ x. fitting (option_and_then (unifier (variables_of_both p q) e.left_side) x)) stands
-      ∙ ap fitting (ap (λ k. unifier k e.left_side w) (sym m) ∙ unified)
+  abbrev q : Kept
+  q = r.pair.q.now
+
+  abbrev e : Reading
+  e = reading_of r.equation
 
   abbrev lines : Option (List Term) → List Line
-  lines = by_unifier_of_both p q (λ s t. Paramodulate e.place e.right (spot_at part place path) s t)
+  lines = by_unifier_of_both p q (λ s t. Paramodulate e.place e.right (spot_at r.part r.place path) s t)
 
-  pub superposed_line : (first : ℕ) (u : List Term) (s t : Subst) (held : List ℕ) (made : Option Clause) → first ≡ variables (clause_of p) → unifier both e.left_side w ≡ Some u → (is_not_below u e.left_side e.right_side && is_upper_side u b path) ≡ true → s.terms ≡ take first u → t.terms ≡ drop first u → held ≡ path →
-      option_map in_order made ≡ paramodulation e.place e.right (spot_at part place held) s.terms t.terms (clause_of p) (clause_of q) →
-      option_to_list (option_map (line_of_both p q (Paramodulate e.place e.right (spot_at part place held) s t)) made) ≡ superpose_raised p q e part place b path
-  superposed_line first u s t held made n unified high is other same concluded =
-      let left : s ≡ first_part p u = ap by_entries (is ∙ ap (λ k. take k u) n) in
-      let right : t ≡ second_part p u = ap by_entries (other ∙ ap (λ k. drop k u) n) in
+  whole : (o : Option (List Term)) → rewriting_unifier r.pair.both e (raised_atom r) path ≡ o → rewrite r path ≡ lines o
+  whole o unified =
+      ap (λ x. lines (option_and_then (λ b. rewriting_unifier (variables_of_both p q) e (renamed_apart p b) path) x)) ready.atom
+      ∙ ap lines (ap (λ k. rewriting_unifier k e (raised_atom r) path) (sym ready.pair.both) ∙ unified)
+
+  pub no_superposed_line : rewriting_unifier r.pair.both e (raised_atom r) path ≡ None → [] ≡ rewrite r path
+  no_superposed_line none = sym (whole None none)
+
+  pub superposed_line : (u : List Term) (s t : Subst) (held : List ℕ) (made : Option Clause) → rewriting_unifier r.pair.both e (raised_atom r) path ≡ Some u → s.terms ≡ take r.pair.first u → t.terms ≡ drop r.pair.first u → held ≡ path →
+      option_map in_order made ≡ paramodulation e.place e.right (spot_at r.part r.place held) s.terms t.terms (clause_of p) (clause_of q) →
+      option_to_list (option_map (line_of_both p q (Paramodulate e.place e.right (spot_at r.part r.place held) s t)) made) ≡ rewrite r path
+  superposed_line u s t held made unified is other same concluded =
+      let left : s ≡ first_part p u = ap by_entries (is ∙ ap (λ k. take k u) ready.pair.first) in
+      let right : t ≡ second_part p u = ap by_entries (other ∙ ap (λ k. drop k u) ready.pair.first) in
       let deps = united p.statement.deps q.statement.deps in
-      ap option_to_list (both_line p q (Paramodulate e.place e.right (spot_at part place held) s t) made _ concluded)
-      ∙ (λ k. option_to_list (option_map (stated_line (Paramodulate e.place e.right (spot_at part place (same k)) (left k) (right k)) (p.number ∷ q.number ∷ [])) (option_map (λ c. states c deps) (paramodulation e.place e.right (spot_at part place (same k)) (left k).terms (right k).terms (clause_of p) (clause_of q)))))
-      ∙ sym (ap lines (known (Some u) unified ∙ ap (λ t. when t u) high))
+      ap option_to_list (both_line p q (Paramodulate e.place e.right (spot_at r.part r.place held) s t) made _ concluded)
+      ∙ (λ k. option_to_list (option_map (stated_line (Paramodulate e.place e.right (spot_at r.part r.place (same k)) (left k) (right k)) (p.number ∷ q.number ∷ [])) (option_map (λ c. states c deps) (paramodulation e.place e.right (spot_at r.part r.place (same k)) (left k).terms (right k).terms (clause_of p) (clause_of q)))))
+      ∙ sym (whole (Some u) unified)
 
--- ---- variables of the subterm
+-- how many entries a unifier that keeps the order has
+pub length-rewriting_unifier : (vars : ℕ) (e : Reading) (b : Atom) (path : List ℕ) (u : List Term) → rewriting_unifier vars e b path ≡ Some u → length u ≡ vars
+length-rewriting_unifier vars e b path u unified = kept_length vars (λ u. is_not_below u e.left_side e.right_side && is_upper_side u b path) (option_and_then (unifier vars e.left_side) (term_under path b)) u (λ w. by_term w (term_under path b)) unified
+  where
+    by_term : (w : List Term) (o : Option Term) → option_and_then (unifier vars e.left_side) o ≡ Some w → length w ≡ vars
+    by_term w None h = absurd (cc)
+    by_term w (Some t) h = length-unifier vars e.left_side t w h
 
-below_there : (n : ℕ) (vs : List ℕ) → AllByRecursion (λ v. v < n) vs → (v : ℕ) → has v vs ≡ true → v < n
-below_there n [] h v e = absurd (cc)
-below_there n (w ∷ vs) h v e = elim (or_cases (v == w) (has v vs) e) [
-  | inl here ↦ subst (λ x. x < n) (sym (eqb-true v w here)) h.0
-  | inr there ↦ below_there n vs h.1 v there
-]
-
-pub subterm_below : (vars : ℕ) (b : Atom) (path : List ℕ) (w : Term) → IsAtomBelow vars b → term_under path b ≡ Some w → HasVariablesBelow vars w
-subterm_below vars b path w h stands =
-    let P : ℕ → Type 0 = λ v. v < vars in
-    All-from_recursion P (term_variables w) (all_below vars (term_variables w) (λ v e. below_there vars (atom_variables b) (recursion_from_All P (atom_variables b) h) v (term_under-inner path b w stands v e)))
+-- the unifier by that of the left side and the term that stands there
+pub rewriting_of : (vars : ℕ) (e : Reading) (b : Atom) (path : List ℕ) (w : Term) → term_under path b ≡ Some w → rewriting_unifier vars e b path ≡ option_and_then (λ u. when (is_not_below u e.left_side e.right_side && is_upper_side u b path) u) (unifier vars e.left_side w)
+rewriting_of vars e b path w stands = ap (λ o. option_and_then (λ u. when (is_not_below u e.left_side e.right_side && is_upper_side u b path) u) (option_and_then (unifier vars e.left_side) o)) stands
 
 -- ---- the walk
 
@@ -107,11 +114,11 @@ module _ (r : Rewriting) where
   walk_application path t f ts is = sym (
       ap (λ x. rewrite_below r path (paths_in x)) is
       ∙ ap (rewrite_below r path) (fold-App paths_step f ts)
-      ∙ (λ k. rewrite r (sym (nil_right path) k) ++ walk_arguments path 0 ts k))
+      ∙ (λ k. rewrite r (append-nil path k) ++ walk_arguments path 0 ts k))
 
   pub walk_deeper : (path : List ℕ) (k : ℕ) (t : Term) → rewrite_below r (path ++ k ∷ []) (paths_in t) ≡ rewrite_argument r path (k, t)
   walk_deeper path k t =
-      (λ j. flat_map (λ rest. rewrite r (assoc path (k ∷ []) rest j)) (paths_in t))
+      (λ j. flat_map (λ rest. rewrite r (append_assoc path (k ∷ []) rest j)) (paths_in t))
       ∙ sym (flat_map-map (λ rest. rewrite r (path ++ rest)) (λ rest. k ∷ rest) (paths_in t))
 
   pub walk_predicate : (a : Atom) (f : Symbol) (ts : List Term) → a ≡ Holds f ts → flat_map (rewrite_argument r []) (enumerate_from 0 ts) ≡ flat_map (rewrite r) (paths_of a)
@@ -139,29 +146,103 @@ stands_deeper (j ∷ path) b w f ts stands is k t there = by_option (slice_get (
     by_option None h = absurd (cc)
     by_option (Some x) h = subterm_deeper path x f ts k t h there
 
--- ---- paths of atoms whose variables are raised
+-- the same of raised terms
+pub raised_deeper : (lift : ℕ) (path : List ℕ) (b : Atom) (w : Term) (f : Symbol) (ts : List Term) → term_under path b ≡ Some (raised lift w) → w ≡ App f ts → (k : ℕ) (t : Term) → slice_get ts k ≡ Some t → term_under (path ++ k ∷ []) b ≡ Some (raised lift t)
+raised_deeper lift path b w f ts stands is k t there =
+    stands_deeper path b (raised lift w) f (map (raised lift) ts) stands (ap (raised lift) is ∙ replace-App (λ v. Var (lift + v)) f ts) k (raised lift t) (slice_get-map (raised lift) ts k ∙ ap (option_map (raised lift)) there)
 
-module _ (h : ℕ → ℕ) where
-  abbrev Stays : Term → Type 0
-  Stays t = paths_in (replace (λ v. Var (h v)) t) ≡ paths_in t
+pub raised_below : (vars lift : ℕ) (w : Term) (f : Symbol) (ts : List Term) → w ≡ App f ts → HasVariablesBelow vars (raised lift w) → HaveVariablesBelow vars (map (raised lift) ts)
+raised_below vars lift w f ts is h = subst (λ vs. All (λ v. v < vars) vs) (ap term_variables (ap (raised lift) is ∙ replace-App (λ v. Var (lift + v)) f ts) ∙ term_variables-App f (map (raised lift) ts)) h
 
-  each_stays : (ts : List Term) → Each Stays ts → map paths_in (map (replace (λ v. Var (h v))) ts) ≡ map paths_in ts
-  each_stays [] each = refl
-  each_stays (t ∷ ts) each = λ i. each.0 i ∷ each_stays ts each.1 i
+first_each : {X : Type 0} (P : X → Type 0) (xs ys : List X) → AllByRecursion P (xs ++ ys) → AllByRecursion P xs × AllByRecursion P ys
+first_each P [] ys h = (tt, h)
+first_each P (x ∷ xs) ys h = let more = first_each P xs ys h.1 in ((h.0, more.0), more.1)
 
-  stays : (t : Term) → Stays t
-  stays =
-      term_induction Stays
-      (λ v. ap paths_in (replace-Var (λ w. Var (h w)) v) ∙ fold-Var paths_step (h v) ∙ sym (fold-Var paths_step v))
-      (λ f ts each. ap paths_in (replace-App (λ w. Var (h w)) f ts) ∙ fold-App paths_step f (map (replace (λ w. Var (h w))) ts) ∙ ap (λ l. [] ∷ placed l) (each_stays ts each) ∙ sym (fold-App paths_step f ts))
+pub each_below : (vars : ℕ) (ts : List Term) (k : ℕ) (t : Term) → HaveVariablesBelow vars ts → slice_get ts k ≡ Some t → HasVariablesBelow vars t
+each_below vars ts k t h e = All-from_recursion (λ v. v < vars) (term_variables t) (at_place ts k (recursion_from_All (λ v. v < vars) (flat_map term_variables ts) h) e)
+  where
+    at_place : (ts : List Term) (k : ℕ) → AllByRecursion (λ v. v < vars) (flat_map term_variables ts) → slice_get ts k ≡ Some t → AllByRecursion (λ v. v < vars) (term_variables t)
+    at_place [] k h e = absurd (cc)
+    at_place (x ∷ ts) zero h e = let same : x ≡ t = cc in subst (λ y. AllByRecursion (λ v. v < vars) (term_variables y)) same (first_each (λ v. v < vars) (term_variables x) (flat_map term_variables ts) h).0
+    at_place (x ∷ ts) (suc k) h e = at_place ts k (first_each (λ v. v < vars) (term_variables x) (flat_map term_variables ts) h).1 e
 
-  all_stay : (ts : List Term) → map paths_in (map (replace (λ v. Var (h v))) ts) ≡ map paths_in ts
-  all_stay [] = refl
-  all_stay (t ∷ ts) = λ i. stays t i ∷ all_stay ts i
+-- ---- the atom of a predicate, and the sides of an equation
 
-  paths_stay : (a : Atom) → paths_of (replace_in_atom (λ v. Var (h v)) a) ≡ paths_of a
-  paths_stay (Holds f ts) = ap placed (all_stay ts)
-  paths_stay (Equal s t) = ap placed (all_stay (s ∷ t ∷ []))
+module _ (r : Rewriting) (ready : IsReady r) where
+  lifted : (t : Term) → raised (variables (clause_of r.pair.p.now)) t ≡ raised r.pair.first t
+  lifted t = ap (λ n. raised n t) (sym ready.pair.first)
+
+  atom_below : IsAtomBelow r.pair.both (raised_atom r)
+  atom_below = second_below r.pair ready.pair r.part r.place r.atom.now ready.atom
+
+  module _ (f : Symbol) (ts : List Term) (is : r.atom.now ≡ Holds f ts) where
+    raised_holds : raised_atom r ≡ Holds f (map (raised r.pair.first) ts)
+    raised_holds = ap (renamed_apart r.pair.p.now) is ∙ (λ k. Holds f (map (λ t. lifted t k) ts))
+
+    pub arguments_there : (k : ℕ) (t : Term) → slice_get ts k ≡ Some t → term_under (k ∷ []) (raised_atom r) ≡ Some (raised r.pair.first t)
+    arguments_there k t there = ap (term_under (k ∷ [])) raised_holds ∙ ap (option_and_then (subterm [])) (slice_get-map (raised r.pair.first) ts k ∙ ap (option_map (raised r.pair.first)) there)
+
+    pub arguments_below : HaveVariablesBelow r.pair.both (map (raised r.pair.first) ts)
+    arguments_below = subst (IsAtomBelow r.pair.both) raised_holds atom_below
+
+    pub holds_upper : (k : ℕ) → IsUpperAt r (k ∷ [])
+    holds_upper k e u = ap (λ a. is_upper_side u a (k ∷ [])) raised_holds
+
+  module _ (s t : Term) (is : r.atom.now ≡ Equal s t) where
+    raised_equal : raised_atom r ≡ Equal (raised r.pair.first s) (raised r.pair.first t)
+    raised_equal = ap (renamed_apart r.pair.p.now) is ∙ (λ k. Equal (lifted s k) (lifted t k))
+
+    pub left_side_is : IsStanding r.side s t → IsSide r 0 s
+    left_side_is known = record {
+      stands = ap (term_under (0 ∷ [])) raised_equal;
+      below = left_below r.pair.both (raised_atom r) (raised r.pair.first s) (raised r.pair.first t) raised_equal atom_below;
+      upper = λ e u. ap (λ a. is_upper_side u a (0 ∷ [])) raised_equal ∙ upper_raised r.pair.first s t (subst (λ x. IsStanding x s t) e known) u;
+      lower = λ e u path. ap (λ a. is_upper_side u a (0 ∷ path)) raised_equal ∙ lower_raised r.pair.first s t (subst (λ x. IsStanding x s t) e known) u;
+    }
+
+    pub right_side_is : IsStanding r.side t s → IsSide r 1 t
+    right_side_is known = record {
+      stands = ap (term_under (1 ∷ [])) raised_equal;
+      below = right_below r.pair.both (raised_atom r) (raised r.pair.first s) (raised r.pair.first t) raised_equal atom_below;
+      upper = λ e u. ap (λ a. is_upper_side u a (1 ∷ [])) raised_equal ∙ upper_raised r.pair.first t s (subst (λ x. IsStanding x t s) e known) u;
+      lower = λ e u path. ap (λ a. is_upper_side u a (1 ∷ path)) raised_equal ∙ lower_raised r.pair.first t s (subst (λ x. IsStanding x t s) e known) u;
+    }
+
+-- ---- equations in their places
+
+abbrev Stands : Kept → Reading → Type 0
+Stands p e = option_and_then (sides_of e.right) (slice_get (clause_of p).succedent e.place) ≡ Some (e.left_side, e.right_side)
+
+readings_stand : (p : Kept) (xs : List (ℕ × Atom)) → AllByRecursion (λ x. atom_at Succedent x.0 (clause_of p) ≡ Some x.1) xs → AllByRecursion (Stands p) (flat_map readings xs)
+readings_stand p [] h = tt
+readings_stand p ((i, Holds f ts) ∷ xs) h = readings_stand p xs h.1
+readings_stand p ((i, Equal s t) ∷ xs) h = (ap (option_and_then (sides_of false)) h.0, (ap (option_and_then (sides_of true)) h.0, readings_stand p xs h.1))
+
+first_of : {x y s t : Term} → ◌≡◌ {A = Option (Term × Term)} (Some (x, y)) (Some (s, t)) → x ≡ s
+first_of {x} h = ap (λ (o : Option (Term × Term)). unwrap_or (option_map (λ p. p.0) o) x) h
+
+-- the left side of an equation that stands there has the variables of the premise
+stands_below : (pair : Pair) → IsPair pair → (e : Reading) → Stands pair.p.now e → HasVariablesBelow pair.both e.left_side
+stands_below pair known e h = by_atom (slice_get (clause_of pair.p.now).succedent e.place) refl h
+  where
+    by_sides : (right : Bool) (a : Atom) (s t : Term) → IsAtomBelow pair.both a → sides_of right a ≡ Some (s, t) → HasVariablesBelow pair.both s
+    by_sides right (Holds f ts) s t below h = absurd (cc)
+    by_sides false (Equal x y) s t below h = subst (HasVariablesBelow pair.both) (first_of h) (left_below pair.both (Equal x y) x y refl below)
+    by_sides true (Equal x y) s t below h = subst (HasVariablesBelow pair.both) (first_of h) (right_below pair.both (Equal x y) x y refl below)
+
+    by_atom : (o : Option Atom) → slice_get (clause_of pair.p.now).succedent e.place ≡ o → option_and_then (sides_of e.right) o ≡ Some (e.left_side, e.right_side) → HasVariablesBelow pair.both e.left_side
+    by_atom None there h = absurd (cc)
+    by_atom (Some a) there h = by_sides e.right a e.left_side e.right_side (first_below pair known e.place a there) h
+
+all_usable : (pair : Pair) → IsPair pair → (equations : List Equation) → AllByRecursion (Stands pair.p.now) (map reading_of equations) → AreJudged equations → AreUsable pair equations
+all_usable pair known [] h judged = tt
+all_usable pair known (e ∷ equations) h judged = (record { stands = h.0; left_below = stands_below pair known (reading_of e) h.0; judged = judged.0 }, all_usable pair known equations h.1 judged.1)
+
+pub usable_equations : (pair : Pair) → IsPair pair → (p : Kept) → pair.p.now ≡ p → (made held : List Equation) → map reading_of made ≡ equations_of p → AreJudged made → held ≡ made → AreUsable pair held
+usable_equations pair known p this made held is judged same =
+    all_usable pair known held
+    (subst (λ k. AllByRecursion (Stands k) (map reading_of held)) (sym this) (subst (AllByRecursion (Stands p)) (sym (ap (map reading_of) same ∙ is)) (readings_stand p (eligible_in p Succedent) (eligible_there p Succedent))))
+    (subst AreJudged (sym same) judged)
 
 -- ---- the whole list
 
@@ -169,46 +250,24 @@ flat_map-flat_map : {X Y Z : Type 0} (f : Y → List Z) (g : X → List Y) (xs :
 flat_map-flat_map f g [] = refl
 flat_map-flat_map f g (x ∷ xs) = flat_map-append f (g x) (flat_map g xs) ∙ ap (λ l. flat_map f (g x) ++ l) (flat_map-flat_map f g xs)
 
-flat_map-same : {X Y : Type 0} (P : X → Type 0) (f g : X → List Y) (xs : List X) → ((x : X) → P x → f x ≡ g x) → AllByRecursion P xs → flat_map f xs ≡ flat_map g xs
-flat_map-same P f g [] e h = refl
-flat_map-same P f g (x ∷ xs) e h = λ i. e x h.0 i ++ flat_map-same P f g xs e h.1 i
-
-each_placed : {X : Type 0} (P : ℕ × X → Type 0) (n : ℕ) (xs : List X) → ((k : ℕ) (x : X) → slice_get xs k ≡ Some x → P (n + k, x)) → AllByRecursion P (enumerate_from n xs)
-each_placed P n [] h = tt
-each_placed P n (x ∷ xs) h =
-    let here : n + 0 ≡ n = omega arith in
-    (subst (λ m. P (m, x)) here (h 0 x refl), each_placed P (n + 1) xs (λ k y e. (let there : n + suc k ≡ (n + 1) + k = omega arith in subst (λ m. P (m, y)) there (h (suc k) y e))))
-
-eligible_there : (q : Kept) (part : Part) → AllByRecursion (λ y. atom_at part y.0 (clause_of q) ≡ Some y.1) (eligible_in q part)
-eligible_there q part = each_kept (λ y. atom_at part y.0 (clause_of q) ≡ Some y.1) _ (enumerate_from 0 (part_of (clause_of q) part)) (each_placed (λ y. atom_at part y.0 (clause_of q) ≡ Some y.1) 0 (part_of (clause_of q) part) (λ k a e. (let z : k ≡ 0 + k = omega arith in subst (λ m. atom_at part m (clause_of q) ≡ Some a) z e)))
-
 module _ (p q : Kept) (e : Reading) where
-  in_atom : (part : Part) (y : ℕ × Atom) → atom_at part y.0 (clause_of q) ≡ Some y.1 → superpose_in p q e part (apart p y) ≡ flat_map (superpose p q e) (map (spot_at part y.0) (paths_of y.1))
-  in_atom part y there =
-      ap (flat_map (superpose_raised p q e part y.0 (renamed_apart p y.1))) (paths_stay (λ v. variables (clause_of p) + v) y.1)
-      ∙ (λ k. flat_map (λ path. by_unifier_of_both p q (λ s t. Paramodulate e.place e.right (spot_at part y.0 path) s t) (option_and_then (λ b. rewriting_unifier (variables_of_both p q) e (renamed_apart p b) path) (sym there k))) (paths_of y.1))
-      ∙ sym (flat_map-map (superpose p q e) (spot_at part y.0) (paths_of y.1))
-
-  in_part : (part : Part) → flat_map (superpose_in p q e part) (map (apart p) (eligible_in q part)) ≡ flat_map (superpose p q e) (spots_in q part)
-  in_part part =
-      flat_map-map (superpose_in p q e part) (apart p) (eligible_in q part)
-      ∙ flat_map-same (λ y. atom_at part y.0 (clause_of q) ≡ Some y.1) (λ y. superpose_in p q e part (apart p y)) (λ y. flat_map (superpose p q e) (map (spot_at part y.0) (paths_of y.1))) (eligible_in q part) (in_atom part) (eligible_there q part)
+  in_part : (part : Part) (places lends : List (ℕ × Bor Atom)) → plain places ≡ eligible_in q part → lends ≡ places → flat_map (superpose_lent p q e part) lends ≡ flat_map (superpose p q e) (spots_in q part)
+  in_part part places lends is same =
+      sym (flat_map-map (superpose_in p q e part) (λ y. (y.0, y.1.now)) lends)
+      ∙ ap (flat_map (superpose_in p q e part)) (ap plain same ∙ is)
+      ∙ sym (λ k. flat_map (λ y. flat_map-map (superpose p q e) (spot_at part y.0) (paths_of y.1) k) (eligible_in q part))
       ∙ sym (flat_map-flat_map (superpose p q e) (λ y. map (spot_at part y.0) (paths_of y.1)) (eligible_in q part))
 
-  in_parts : superpose_in_parts p q (map (apart p) (eligible_in q Antecedent)) (map (apart p) (eligible_in q Succedent)) e ≡ flat_map (superpose p q e) (spots_of q)
-  in_parts = (λ k. in_part Antecedent k ++ in_part Succedent k) ∙ sym (flat_map-append (superpose p q e) (spots_in q Antecedent) (spots_in q Succedent))
+  in_parts : (antecedent antecedents succedent succedents : List (ℕ × Bor Atom)) → plain antecedent ≡ eligible_in q Antecedent → antecedents ≡ antecedent → plain succedent ≡ eligible_in q Succedent → succedents ≡ succedent → superpose_in_parts p q antecedents succedents e ≡ flat_map (superpose p q e) (spots_of q)
+  in_parts antecedent antecedents succedent succedents left same right there = (λ k. in_part Antecedent antecedent antecedents left same k ++ in_part Succedent succedent succedents right there k) ∙ sym (flat_map-append (superpose p q e) (spots_in q Antecedent) (spots_in q Succedent))
 
-pub superpositions_are : (p q : Kept) (made held : List Equation) (antecedent succedent : List (ℕ × Atom)) → map reading_of made ≡ equations_of p → held ≡ made → antecedent ≡ map (apart p) (eligible_in q Antecedent) → succedent ≡ map (apart p) (eligible_in q Succedent) →
-    flat_map (λ e. superpose_in_parts p q antecedent succedent (reading_of e)) held ≡ superpositions p q
-superpositions_are p q made held antecedent succedent is same left right =
-    sym (flat_map-map (superpose_in_parts p q antecedent succedent) reading_of held)
-    ∙ (λ k. flat_map (superpose_in_parts p q (left k) (right k)) ((ap (map reading_of) same ∙ is) k))
-    ∙ (λ k. flat_map (λ e. in_parts p q e k) (equations_of p))
-
--- ---- variables of the equations
-
-pub pair_equations_below : (p q : Kept) (both : ℕ) (made held : List Equation) → IsInOrder (clause_of p) → both ≡ variables_of_both p q → map reading_of made ≡ equations_of p → held ≡ made → AreLeftSidesBelow both held
-pair_equations_below p q both made held o m is same = equations_below both (variables_of_both p q) (eligible_in p Succedent) made held (first_atoms_below p q o) m is same
+pub superpositions_are : (p q p' q' : Kept) (made held : List Equation) (antecedent antecedents succedent succedents : List (ℕ × Bor Atom)) → p' ≡ p → q' ≡ q → map reading_of made ≡ equations_of p → held ≡ made → plain antecedent ≡ eligible_in q Antecedent → antecedents ≡ antecedent → plain succedent ≡ eligible_in q Succedent → succedents ≡ succedent →
+    flat_map (λ e. superpose_in_parts p' q' antecedents succedents (reading_of e)) held ≡ superpositions p q
+superpositions_are p q p' q' made held antecedent antecedents succedent succedents this that is same left there right again =
+    (λ k. flat_map (λ e. superpose_in_parts (this k) (that k) antecedents succedents (reading_of e)) held)
+    ∙ sym (flat_map-map (superpose_in_parts p q antecedents succedents) reading_of held)
+    ∙ ap (flat_map (superpose_in_parts p q antecedents succedents)) (ap (map reading_of) same ∙ is)
+    ∙ (λ k. flat_map (λ e. in_parts p q e antecedent antecedents succedent succedents left there right again k) (equations_of p))
 
 -- ---- arguments one by one
 

@@ -9,6 +9,7 @@ use Rattle.proof_steps.specs.declared.step.Line.{Line}
 use Rattle.calculus.specs.declared.kept.Kept.{Kept}
 use Rattle.calculus.specs.Inferences.{Reading, clause_of, by_unifier, atom_unifier, factor_equation}
 use Rattle.superposition.specs.declared.equations.Equation.{Equation}
+use Rattle.superposition.specs.Standings.{IsStanding}
 
 -- an equation that is lent
 abbrev pub reading_of : Equation → Reading
@@ -17,6 +18,10 @@ reading_of e = record { place = e.place; right = e.right; left_side = e.left_sid
 -- the side of each equation that is read first
 abbrev pub AreLeftSidesBelow : ℕ → List Equation → Type 0
 AreLeftSidesBelow vars equations = AllByRecursion (λ e. HasVariablesBelow vars e.left_side.now) equations
+
+-- how the sides of each equation stand is known
+abbrev pub AreJudged : List Equation → Type 0
+AreJudged equations = AllByRecursion (λ e. IsStanding e.standing e.left_side.now e.right_side.now) equations
 
 -- an atom of the succedent with an atom at another place
 abbrev pub factor_with : Kept → ℕ × Atom → ℕ × Atom → List Line

@@ -1,5 +1,5 @@
 -- Places and atoms as the code holds them, and what is appended for them.
-use Rattle.std.specs.Prelude.{ℕ, List, [], ◌∷◌, map, All, ◌<◌}
+use Rattle.std.specs.Prelude.{◌≡◌, ℕ, List, [], ◌∷◌, map, All, ◌<◌, Some}
 use Rattle.std.specs.List.{AllByRecursion}
 use Rattle.std.specs.Borrow.{Bor}
 use Rattle.spl_terms.specs.declared.atom.Atom.{Atom}
@@ -7,12 +7,11 @@ use Rattle.spl_terms.specs.declared.clause.Part.{Part}
 use Rattle.spl_terms.specs.declared.clause.Clause.{Clause}
 use Rattle.spl_terms.specs.Clauses.{atom_variables, in_order}
 use Rattle.dep_sets.specs.Assumptions.{united}
+use Rattle.proof_steps.specs.Spots.{atom_at}
 use Rattle.proof_steps.specs.Steps.{states}
 use Rattle.proof_steps.specs.declared.step.Rule.{Rule}
 use Rattle.proof_steps.specs.declared.step.Line.{Line}
-use Rattle.proof_steps.specs.declared.step.Rule.TheVariants.{Resolve}
 use Rattle.calculus.specs.declared.kept.Kept.{Kept}
-use Rattle.calculus.specs.Inferences.{variables_of_both, by_unifier_of_both, atom_unifier}
 
 -- atoms that are lent, each with its place
 abbrev pub plain : List (ℕ × Bor Atom) → List (ℕ × Atom)
@@ -28,9 +27,9 @@ AreAtomsBelow vars atoms = AllByRecursion (λ x. IsAtomBelow vars x.1) atoms
 abbrev pub AreLentBelow : ℕ → List (ℕ × Bor Atom) → Type 0
 AreLentBelow vars atoms = AllByRecursion (λ x. IsAtomBelow vars x.1.now) atoms
 
--- resolution of the succedent atom of p with an atom of q whose variables are raised
-abbrev pub resolve_raised : Part → Kept → Kept → ℕ × Atom → ℕ × Atom → List Line
-resolve_raised part p q x y = by_unifier_of_both p q (λ s t. Resolve x.0 part y.0 s t) (atom_unifier (variables_of_both p q) x.1 y.1)
+-- each of the atoms stands at its place of the part
+abbrev pub AreInPlace : Clause → Part → List (ℕ × Bor Atom) → Type 0
+AreInPlace c part atoms = AllByRecursion (λ x. atom_at part x.0 c ≡ Some x.1.now) atoms
 
 -- the line that states the clause in order, by the rule from one premise, and from two
 abbrev pub line_of : Kept → Rule → Clause → Line

@@ -4,28 +4,66 @@ ghost use Rattle.spl_terms.specs.Clauses.{clause_symbols};
 ghost use Rattle.spl_terms.specs.InOrder.{IsInOrder};
 ghost use Rattle.calculus.specs.Inferences.{clause_of, from_to, pair_inferences, own_inferences};
 ghost use Rattle.superposition.specs.Appending.{Appended};
+ghost use Rattle.superposition.specs.Premises.{IsFound};
 
 use crate::error::InferError;
-use crate::own::{equality_factorings, factorings, reflections};
-use crate::resolution::resolutions;
-use crate::rewriting::superpositions;
+use crate::own::{factor_equations_of, factor_premise, reflect_premise};
+use crate::premises::Premise;
+use crate::resolution::resolve_premises;
+use crate::rewriting::superpose_premises;
 use calculus::Kept;
 use proof_steps::Line;
-use spl_terms::Part;
 use std::alloc::Global;
 
 /// Appends the resolutions and then the superpositions with p as the premise of the succedent atom.
-fn from_to(alloc: Global, p: &Kept, q: &Kept, out: &mut Vec<Line>) -> Result<(), InferError>
-    requires p_in_order { IsInOrder (clause_of p.now) }
-    requires q_in_order { IsInOrder (clause_of q.now) }
-    requires p_size { clause_symbols (clause_of p.now) ≤ 4096 }
-    requires q_size { clause_symbols (clause_of q.now) ≤ 4096 }
-    ensures { Appended (from_to p.now q.now) out.old.items out.new.items result }
+fn from_to<'a>(
+    alloc: Global,
+    p: &Premise<'a>,
+    q: &Premise<'a>,
+    out: &mut Vec<Line>,
+) -> Result<(), InferError>
+    requires p_found { IsFound p.now }
+    requires q_found { IsFound q.now }
+    ensures { Appended (from_to p.now.kept.now q.now.kept.now) out.old.items out.new.items result }
 {
-    if let Err(error) = resolutions(alloc, Part::Antecedent, p, q, out) {
+    if let Err(error) = resolve_premises(alloc, p, q, out) {
         return Err(error);
     }
-    superpositions(alloc, p, q, out)
+    superpose_premises(alloc, p, q, out)
+}
+
+/// Appends the inferences of two premises, with each of them as the first one.
+fn infer_from_both<'a>(
+    alloc: Global,
+    p: &Premise<'a>,
+    q: &Premise<'a>,
+    out: &mut Vec<Line>,
+) -> Result<(), InferError>
+    requires p_found { IsFound p.now }
+    requires q_found { IsFound q.now }
+    ensures { Appended (pair_inferences p.now.kept.now q.now.kept.now) out.old.items out.new.items result }
+{
+    if let Err(error) = from_to(alloc, p, q, out) {
+        return Err(error);
+    }
+    from_to(alloc, q, p, out)
+}
+
+/// Appends the inferences of a premise with a copy of itself, and then those of the premise alone.
+fn infer_from_one(alloc: Global, p: &Premise, out: &mut Vec<Line>) -> Result<(), InferError>
+    requires { IsFound p.now }
+    ensures { Appended (own_inferences p.now.kept.now) out.old.items out.new.items result }
+{
+    if let Err(error) = from_to(alloc, p, p, out) {
+        return Err(error);
+    }
+    if let Err(error) = factor_premise(alloc, p, out) {
+        return Err(error);
+    }
+    if let Err(error) = reflect_premise(alloc, p, out) {
+        return Err(error);
+    }
+    factor_equations_of(alloc, p, out)
 }
 
 /// Appends the inferences of two clauses, with each of them as the first premise: resolution and superposition
@@ -33,9 +71,9 @@ fn from_to(alloc: Global, p: &Kept, q: &Kept, out: &mut Vec<Line>) -> Result<(),
 ///
 /// # Errors
 ///
-/// `Big` exactly where the next conclusion has more than 4,096 symbols; `Memory` only where there is no memory, or
-/// an instance
-/// of more than 4,294,967,295 symbols would have to be compared. What comes before it in the list was appended.
+/// `Big` exactly where the next conclusion has more than 4,096 symbols; `Memory` only where there is no memory, or an
+/// instance of more than 4,294,967,295 symbols would have to be compared. What comes before it in the list was appended.
+#[tactic(auto, using(crate::proofs::Composing::no_memory))]
 pub fn infer_pair(
     alloc: Global,
     given: &Kept,
@@ -48,10 +86,9 @@ pub fn infer_pair(
     requires other_size { clause_symbols (clause_of other.now) ≤ 4096 }
     ensures { Appended (pair_inferences given.now other.now) out.old.items out.new.items result }
 {
-    if let Err(error) = from_to(alloc, given, other, out) {
-        return Err(error);
-    }
-    from_to(alloc, other, given, out)
+    let first = Premise::new(alloc, given)?;
+    let second = Premise::new(alloc, other)?;
+    infer_from_both(alloc, &first, &second, out)
 }
 
 /// Appends the inferences of a clause with a copy of itself, and then those of the clause alone: factoring, equality
@@ -65,14 +102,6 @@ pub fn infer_self(alloc: Global, given: &Kept, out: &mut Vec<Line>) -> Result<()
     requires size { clause_symbols (clause_of given.now) ≤ 4096 }
     ensures { Appended (own_inferences given.now) out.old.items out.new.items result }
 {
-    if let Err(error) = from_to(alloc, given, given, out) {
-        return Err(error);
-    }
-    if let Err(error) = factorings(alloc, given, out) {
-        return Err(error);
-    }
-    if let Err(error) = reflections(alloc, given, out) {
-        return Err(error);
-    }
-    equality_factorings(alloc, given, out)
+    let premise = Premise::new(alloc, given)?;
+    infer_from_one(alloc, &premise, out)
 }

@@ -5,6 +5,7 @@
 #![tactic(auto)]
 
 mod appending;
+mod building;
 mod equations;
 mod error;
 mod inferring;
@@ -12,9 +13,11 @@ mod ordering;
 mod own;
 mod pairs;
 mod premises;
+mod raising;
 mod resolution;
 mod rewriting;
 mod unifiers;
+mod upper;
 
 pub use calculus::Kept;
 pub use error::InferError;

@@ -6,24 +6,27 @@ ghost use Rattle.spl_terms.specs.InOrder.{IsInOrder, variables};
 ghost use Rattle.spl_truth.specs.Unifiers.{HasVariablesBelow};
 ghost use Rattle.proof_steps.specs.Steps.{has_entries, reflection, equality_factoring};
 ghost use Rattle.proof_steps.specs.declared.step.Rule.TheVariants.{Reflex};
-ghost use Rattle.calculus.specs.Inferences.{clause_of, by_unifier, sides_unifier};
+ghost use Rattle.calculus.specs.Inferences.{clause_of, by_unifier, sides_unifier, factoring_unifier};
 ghost use Rattle.calculus.specs.Inferences.{factorings, reflections, equality_factorings};
 ghost use Rattle.superposition.specs.Appending.{Appended};
 ghost use Rattle.superposition.specs.Words.{IsAtomBelow, AreLentBelow};
-ghost use Rattle.superposition.specs.Readings.{reading_of, AreLeftSidesBelow, factor_with, factor_apart};
+ghost use Rattle.superposition.specs.Readings.{reading_of, AreLeftSidesBelow, AreJudged, factor_with, factor_apart};
+ghost use Rattle.superposition.specs.Standings.{IsStanding};
+ghost use Rattle.superposition.specs.Premises.{IsFound};
 
 use crate::appending::append_from;
 use crate::equations::{Equation, readings_of};
 use crate::error::InferError;
-use crate::ordering::{is_always_below, is_not_below};
-use crate::premises::{atoms_in, eligible_in, variables};
-use crate::unifiers::{unifier_of_atoms, unifier_of_sides};
+use crate::ordering::Standing;
+use crate::premises::{Premise, atoms_in};
+use crate::unifiers::{unifier_of_atoms, unifier_of_sides, written};
+use crate::upper::is_left_upper;
 use calculus::Kept;
 use proof_steps::{Line, Rule, equality_factored, reflexed};
 use spl_terms::{Atom, Clause, Part};
 use spl_truth::{Subst, instance};
 use std::alloc::{AllocError, Global};
-use unify::unify;
+use unify::unify_bound;
 
 // ---- factoring
 
@@ -103,6 +106,20 @@ fn factor_all(
     Ok(())
 }
 
+/// Factors each eligible atom of the succedent with each other one.
+pub(crate) fn factor_premise(
+    alloc: Global,
+    p: &Premise,
+    out: &mut Vec<Line>,
+) -> Result<(), InferError>
+    requires { IsFound p.now }
+    ensures { Appended (factorings p.now.kept.now) out.old.items out.new.items result }
+{
+    let atoms = atoms_in(alloc, &p.kept.statement.clause, Part::Succedent)?;
+    let places = p.succedent.as_slice();
+    factor_all(alloc, p.kept, p.variables, places, atoms.as_slice(), out)
+}
+
 /// Appends what each eligible predicate atom of the succedent gives with each other one, in the order of their places.
 ///
 /// # Errors
@@ -113,10 +130,8 @@ pub fn factorings(alloc: Global, p: &Kept, out: &mut Vec<Line>) -> Result<(), In
     requires size { clause_symbols (clause_of p.now) ≤ 4096 }
     ensures { Appended (factorings p.now) out.old.items out.new.items result }
 {
-    let places = eligible_in(alloc, p, Part::Succedent)?;
-    let atoms = atoms_in(alloc, &p.statement.clause, Part::Succedent)?;
-    let vars = variables(alloc, &p.statement.clause)?;
-    factor_all(alloc, p, vars, places.as_slice(), atoms.as_slice(), out)
+    let premise = Premise::new(alloc, p)?;
+    factor_premise(alloc, &premise, out)
 }
 
 // ---- equality resolution
@@ -174,6 +189,18 @@ fn reflect_all(
     Ok(())
 }
 
+/// Removes each eligible equation of the antecedent.
+pub(crate) fn reflect_premise(
+    alloc: Global,
+    p: &Premise,
+    out: &mut Vec<Line>,
+) -> Result<(), InferError>
+    requires { IsFound p.now }
+    ensures { Appended (reflections p.now.kept.now) out.old.items out.new.items result }
+{
+    reflect_all(alloc, p.kept, p.variables, p.antecedent.as_slice(), out)
+}
+
 /// Appends what equality resolution concludes for each eligible equation of the antecedent, in the order of their
 /// places.
 ///
@@ -185,9 +212,8 @@ pub fn reflections(alloc: Global, p: &Kept, out: &mut Vec<Line>) -> Result<(), I
     requires size { clause_symbols (clause_of p.now) ≤ 4096 }
     ensures { Appended (reflections p.now) out.old.items out.new.items result }
 {
-    let places = eligible_in(alloc, p, Part::Antecedent)?;
-    let vars = variables(alloc, &p.statement.clause)?;
-    reflect_all(alloc, p, vars, places.as_slice(), out)
+    let premise = Premise::new(alloc, p)?;
+    reflect_premise(alloc, &premise, out)
 }
 
 // ---- equality factoring
@@ -208,9 +234,33 @@ fn factored(
     equality_factored(alloc, e.place, e.right, d.place, d.right, first)
 }
 
+/// The unifier of the left sides of two equations, where they have one by which the left side of the first one isn't
+/// below its right side.
+fn unifier_in_order(
+    alloc: Global,
+    vars: u32,
+    e: Equation,
+    d: Equation,
+) -> Result<Option<Subst>, AllocError>
+    requires e_below { HasVariablesBelow vars e.left_side.now }
+    requires d_below { HasVariablesBelow vars d.left_side.now }
+    requires judged { IsStanding e.standing e.left_side.now e.right_side.now }
+    ensures { IfOk result (λ found. option_map (λ s. s.terms) found ≡
+        factoring_unifier vars (reading_of e.entry) (reading_of d.entry)) }
+{
+    let Some(bindings) = unify_bound(alloc, e.left_side, d.left_side, vars)? else {
+        return Ok(None);
+    };
+    let high = is_left_upper(alloc, &bindings, e)?;
+    if !high {
+        return Ok(None);
+    }
+    let s = written(alloc, &bindings, vars)?;
+    Ok(Some(s))
+}
+
 /// Factors an equation with one at another place, if their left sides have a unifier by which the left side of the
-/// first
-/// isn't below its right side.
+/// first isn't below its right side.
 fn factor_equation(
     alloc: Global,
     p: &Kept,
@@ -222,6 +272,7 @@ fn factor_equation(
     requires vars { vars ≡ variables (clause_of p.now) }
     requires e_below { HasVariablesBelow vars e.left_side.now }
     requires d_below { HasVariablesBelow vars d.left_side.now }
+    requires judged { IsStanding e.standing e.left_side.now e.right_side.now }
     ensures { Appended
         (factor_apart p.now (reading_of e.entry) (reading_of d.entry))
         out.old.items out.new.items result }
@@ -229,13 +280,9 @@ fn factor_equation(
     if e.place == d.place {
         return Ok(());
     }
-    let Some(s) = unify(alloc, e.left_side, d.left_side, vars)? else {
+    let Some(s) = unifier_in_order(alloc, vars, e, d)? else {
         return Ok(());
     };
-    let high = is_not_below(alloc, &s, e.left_side, e.right_side)?;
-    if !high {
-        return Ok(());
-    }
     let made = factored(alloc, &p.statement.clause, e, d, &s)?;
     let rule = Rule::EqFactor {
         i: e.place,
@@ -259,11 +306,12 @@ fn factor_equation_with_each(
     requires vars { vars ≡ variables (clause_of p.now) }
     requires e_below { HasVariablesBelow vars e.left_side.now }
     requires others_below { AreLeftSidesBelow vars others.now }
+    requires judged { IsStanding e.standing e.left_side.now e.right_side.now }
     ensures { Appended
         (flat_map (λ d. factor_apart p.now (reading_of e.entry) (reading_of d)) others.now)
         out.old.items out.new.items result }
 {
-    if is_always_below(e.left_side, e.right_side) {
+    if let Standing::Lower = e.standing {
         return Ok(());
     }
     for k in 0..others.len() {
@@ -286,6 +334,7 @@ fn factor_equations(
     requires vars { vars ≡ variables (clause_of p.now) }
     requires equations_below { AreLeftSidesBelow vars equations.now }
     requires others_below { AreLeftSidesBelow vars others.now }
+    requires judged { AreJudged equations.now }
     ensures { Appended
         (flat_map (λ e. flat_map (λ d. factor_apart p.now (reading_of e) (reading_of d)) others.now) equations.now)
         out.old.items out.new.items result }
@@ -298,9 +347,33 @@ fn factor_equations(
     Ok(())
 }
 
-/// Appends what each eligible equation of the succedent, in both directions, gives with each other equation there,
-/// in both
-/// directions.
+/// Factors each eligible equation of the succedent with each other one.
+pub(crate) fn factor_equations_of(
+    alloc: Global,
+    p: &Premise,
+    out: &mut Vec<Line>,
+) -> Result<(), InferError>
+    requires { IsFound p.now }
+    ensures { Appended (equality_factorings p.now.kept.now) out.old.items out.new.items result }
+{
+    let equations = p.equations.as_slice();
+    if equations.len() == 0 {
+        return Ok(());
+    }
+    let atoms = atoms_in(alloc, &p.kept.statement.clause, Part::Succedent)?;
+    let others = readings_of(alloc, atoms.as_slice())?;
+    factor_equations(
+        alloc,
+        p.kept,
+        p.variables,
+        equations,
+        others.as_slice(),
+        out,
+    )
+}
+
+/// Appends what each eligible equation of the succedent, in both directions, gives with each other equation there, in
+/// both directions.
 ///
 /// # Errors
 ///
@@ -310,10 +383,6 @@ pub fn equality_factorings(alloc: Global, p: &Kept, out: &mut Vec<Line>) -> Resu
     requires size { clause_symbols (clause_of p.now) ≤ 4096 }
     ensures { Appended (equality_factorings p.now) out.old.items out.new.items result }
 {
-    let places = eligible_in(alloc, p, Part::Succedent)?;
-    let atoms = atoms_in(alloc, &p.statement.clause, Part::Succedent)?;
-    let equations = readings_of(alloc, places.as_slice())?;
-    let others = readings_of(alloc, atoms.as_slice())?;
-    let vars = variables(alloc, &p.statement.clause)?;
-    factor_equations(alloc, p, vars, equations.as_slice(), others.as_slice(), out)
+    let premise = Premise::new(alloc, p)?;
+    factor_equations_of(alloc, &premise, out)
 }

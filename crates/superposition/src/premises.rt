@@ -1,18 +1,17 @@
-//! What is found once a premise and call: its number of variables, its eligible places, its atoms with raised
-//! variables.
-ghost use Rattle.std.specs.Prelude.{◌≡◌, ◌+◌, ◌≤◌, [], ◌∷◌, ◌++◌, map, filter, IfOk, OnOk};
+//! What is found once a premise and call: its number of variables, its eligible atoms and equations.
+ghost use Rattle.std.specs.Prelude.{◌≡◌, ◌≤◌, [], ◌∷◌, ◌++◌, filter, IfOk, OnOk};
 ghost use Rattle.spl_truth.specs.Places.{is_eligible};
-ghost use Rattle.spl_terms.specs.declared.term.Term.{Var};
-ghost use Rattle.spl_terms.specs.Terms.{replace};
 ghost use Rattle.std.specs.List.{enumerate_from};
-ghost use Rattle.spl_terms.specs.Clauses.{clause_symbols, part_of, replace_in_atom};
-ghost use Rattle.spl_terms.specs.InOrder.{variables};
+ghost use Rattle.spl_terms.specs.Clauses.{clause_symbols, part_of};
+ghost use Rattle.spl_terms.specs.InOrder.{IsInOrder, variables};
 ghost use Rattle.calculus.specs.Inferences.{clause_of, eligible_in};
 ghost use Rattle.superposition.specs.Words.{plain};
+ghost use Rattle.superposition.specs.Premises.{IsFound};
 
+use crate::equations::{Equation, readings_of};
 use calculus::Kept;
 use kbo::eligible;
-use spl_terms::{Atom, Clause, Items, Part, Term, order_of};
+use spl_terms::{Atom, Clause, Part, order_of};
 use std::alloc::{AllocError, Global};
 
 /// How many variables the clause has.
@@ -88,65 +87,38 @@ pub(crate) fn atoms_in<'a>(
     Ok(places)
 }
 
-// ---- variables raised
-
-#[cycle(raising)]
-#[tactic(auto, using(crate::proofs::Unified::replace_laws))]
-fn raised(alloc: Global, lift: u32, term: &Term) -> Result<Term, AllocError>
-    ensures { IfOk result (λ made. made ≡ replace (λ v. Var (lift + v)) term.now) }
-{
-    match term {
-        Term::Var(variable) => match lift.checked_add(*variable) {
-            Some(higher) => Ok(Term::Var(higher)),
-            None => Err(AllocError),
-        },
-        Term::App(symbol, args) => Ok(Term::App(
-            *symbol,
-            all_raised(alloc, lift, args.as_slice())?,
-        )),
-    }
+/// A premise, with what its inferences ask for.
+#[derive(Drop)]
+pub(crate) struct Premise<'a> {
+    /// The premise itself.
+    pub(crate) kept: &'a Kept,
+    /// How many variables it has.
+    pub(crate) variables: u32,
+    /// The eligible atoms of the antecedent, each with its place.
+    pub(crate) antecedent: Vec<(u32, &'a Atom)>,
+    /// Those of the succedent.
+    pub(crate) succedent: Vec<(u32, &'a Atom)>,
+    /// The eligible equations of the succedent, each in both directions.
+    pub(crate) equations: Vec<Equation<'a>>,
 }
 
-#[cycle(raising)]
-#[tactic(auto, using(crate::proofs::Unified::replace_laws))]
-fn all_raised(alloc: Global, lift: u32, terms: &[Term]) -> Result<Items<Term>, AllocError>
-    ensures { IfOk result (λ made. made ≡ map (replace (λ v. Var (lift + v))) terms.now) }
-{
-    let mut made = Items::with_room(alloc, terms.len())?;
-    for term in terms {
-        made.push(raised(alloc, lift, term)?)?;
+impl<'a> Premise<'a> {
+    /// The premise with all this. The only error is want of memory.
+    pub(crate) fn new(alloc: Global, kept: &'a Kept) -> Result<Premise<'a>, AllocError>
+        requires size { clause_symbols (clause_of kept.now) ≤ 4096 }
+        requires in_order { IsInOrder (clause_of kept.now) }
+        ensures { IfOk result (λ premise. (premise.kept.now ≡ kept.now) × IsFound premise) }
+    {
+        let variables = variables(alloc, &kept.statement.clause)?;
+        let antecedent = eligible_in(alloc, kept, Part::Antecedent)?;
+        let succedent = eligible_in(alloc, kept, Part::Succedent)?;
+        let equations = readings_of(alloc, succedent.as_slice())?;
+        Ok(Premise {
+            kept,
+            variables,
+            antecedent,
+            succedent,
+            equations,
+        })
     }
-    Ok(made)
-}
-
-fn raised_atom(alloc: Global, lift: u32, atom: &Atom) -> Result<Atom, AllocError>
-    ensures { IfOk result (λ made. made ≡ replace_in_atom (λ v. Var (lift + v)) atom.now) }
-{
-    match atom {
-        Atom::Holds(predicate, args) => Ok(Atom::Holds(
-            *predicate,
-            all_raised(alloc, lift, args.as_slice())?,
-        )),
-        Atom::Equal(left, right) => Ok(Atom::Equal(
-            raised(alloc, lift, left)?,
-            raised(alloc, lift, right)?,
-        )),
-    }
-}
-
-/// Copies of the atoms with their variables raised, each with its place.
-pub(crate) fn raised_atoms(
-    alloc: Global,
-    lift: u32,
-    atoms: &[(u32, &Atom)],
-) -> Result<Vec<(u32, Atom)>, AllocError>
-    ensures { IfOk result (λ made. made.items ≡
-        map (λ x. (x.0, replace_in_atom (λ v. Var (lift + v)) x.1)) (plain atoms.now)) }
-{
-    let mut made = Vec::with_capacity(alloc, atoms.len())?;
-    for k in 0..atoms.len() {
-        let (place, atom) = atoms[k];
-        made.push((place, raised_atom(alloc, lift, atom)?))?;
-    }
-    Ok(made)
 }

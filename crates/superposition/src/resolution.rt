@@ -1,172 +1,152 @@
 //! Resolution.
-ghost use Rattle.std.specs.Prelude.{◌≡◌, ◌+◌, ◌≤◌, ◌&&◌, true, option_map, IfOk};
+ghost use Rattle.std.specs.Prelude.{◌≡◌, ◌≤◌, Some};
 ghost use Rattle.std.specs.List.{flat_map};
-ghost use Rattle.spl_terms.specs.Clauses.{clause_symbols, in_order};
-ghost use Rattle.spl_terms.specs.InOrder.{IsInOrder, variables};
-ghost use Rattle.proof_steps.specs.Steps.{has_entries, resolved, resolution};
-ghost use Rattle.calculus.specs.Inferences.{clause_of, eligible_in, variables_of_both, resolutions};
+ghost use Rattle.spl_terms.specs.Clauses.{clause_symbols};
+ghost use Rattle.spl_terms.specs.InOrder.{IsInOrder};
+ghost use Rattle.spl_terms.specs.declared.clause.Part.TheVariants.{Antecedent, Succedent};
+ghost use Rattle.proof_steps.specs.Spots.{atom_at};
+ghost use Rattle.proof_steps.specs.Steps.{is_negative};
+ghost use Rattle.calculus.specs.Inferences.{clause_of, resolve, resolutions};
 ghost use Rattle.superposition.specs.Appending.{Appended};
-ghost use Rattle.superposition.specs.Words.{IsAtomBelow, AreAtomsBelow, AreLentBelow, resolve_raised};
+ghost use Rattle.superposition.specs.Words.{AreInPlace};
+ghost use Rattle.superposition.specs.Pairs.{IsPair};
+ghost use Rattle.superposition.specs.Premises.{IsFound};
 
 use crate::appending::append_from_both;
+use crate::building::{Literals, resolvent_of};
 use crate::error::InferError;
-use crate::premises::{eligible_in, raised_atoms, variables};
-use crate::unifiers::{parted, unifier_of_atoms};
-use calculus::Kept;
-use proof_steps::{Line, Rule, joined, may_resolve, without};
-use spl_terms::{Atom, Clause, Part};
-use spl_truth::{Subst, instance};
-use std::alloc::{AllocError, Global};
+use crate::pairs::Pair;
+use crate::premises::{Premise, eligible_in, variables};
+use crate::unifiers::unifier_apart;
+use calculus::{Kept, no_unifier_is_lost};
+use proof_steps::{Line, Rule};
+use spl_terms::{Atom, Part};
+use std::alloc::Global;
 
-/// The literals that are resolved: a place of the succedent of the first premise, and one of a part of the second one.
-#[derive(Clone, Copy, Debug)]
-struct Literals {
-    i: u32,
-    part: Part,
-    j: u32,
-}
-
-/// How many variables the first premise has, and how many both have.
-#[derive(Clone, Copy, Debug)]
-struct Counts {
-    first: u32,
-    both: u32,
-}
-
-/// What resolution concludes from two instances, before it is put in order.
-#[tactic(auto, using(crate::proofs::Resolving::resolved_rules))]
-fn resolved(literals: Literals, p: Clause, q: Clause) -> Result<Option<Clause>, AllocError>
-    ensures { IfOk result (λ made. option_map in_order made ≡ resolved literals.i literals.part literals.j p q) }
+/// Whether atoms of this part are false where the clause is true by it.
+fn is_negative(part: Part) -> bool
+    ensures { result ≡ is_negative part }
 {
-    let Literals { i, part, j } = literals;
-    if !may_resolve(i, part, j, &p, &q) {
-        return Ok(None);
+    match part {
+        Part::Constraint | Part::Antecedent => true,
+        Part::Succedent => false,
     }
-    let first = without(Part::Succedent, i as usize, p);
-    let second = without(part, j as usize, q);
-    Ok(Some(joined(first, second)?))
 }
 
-/// What resolution concludes by these substitutions, before it is put in order.
-fn resolved_by(
-    alloc: Global,
-    p: &Clause,
-    q: &Clause,
-    literals: Literals,
-    s: &Subst,
-    t: &Subst,
-) -> Result<Option<Clause>, AllocError>
-    requires { (has_entries s.now.terms p.now && has_entries t.now.terms q.now) ≡ true }
-    ensures { IfOk result (λ made. option_map in_order made ≡
-        resolution literals.i literals.part literals.j s.now.terms t.now.terms p.now q.now) }
-{
-    let first = instance(alloc, s, p)?;
-    let second = instance(alloc, t, q)?;
-    resolved(literals, first, second)
-}
-
-/// Resolves an atom of the succedent of p with an atom of q, whose variables are raised, if they have a unifier.
+/// Resolves an atom of the succedent of p with an atom of this part of q, if they have a unifier.
 fn resolve(
     alloc: Global,
-    p: &Kept,
-    q: &Kept,
-    counts: Counts,
-    literals: Literals,
-    a: &Atom,
-    b: &Atom,
+    pair: Pair,
+    part: Part,
+    first: (u32, &Atom),
+    second: (u32, &Atom),
     out: &mut Vec<Line>,
 ) -> Result<(), InferError>
-    requires first { counts.first ≡ variables (clause_of p.now) }
-    requires both { counts.both ≡ variables_of_both p.now q.now }
-    requires a_below { IsAtomBelow counts.both a.now }
-    requires b_below { IsAtomBelow counts.both b.now }
+    requires pair { IsPair pair }
+    requires first { atom_at Succedent first.0 (clause_of pair.p.now) ≡ Some first.1.now }
+    requires second { atom_at part second.0 (clause_of pair.q.now) ≡ Some second.1.now }
     ensures { Appended
-        (resolve_raised literals.part p.now q.now (literals.i, a.now) (literals.j, b.now))
+        (resolve part pair.entry.p.now pair.entry.q.now
+        (first.entry.0, first.entry.1.now) (second.entry.0, second.entry.1.now))
         out.old.items out.new.items result }
 {
-    let Some(unifier) = unifier_of_atoms(alloc, a, b, counts.both)? else {
+    no_unifier_is_lost();
+    let (i, a) = first;
+    let (j, b) = second;
+    if !is_negative(part) {
+        return Ok(());
+    }
+    let Some((s, t)) = unifier_apart(alloc, pair, a, b)? else {
         return Ok(());
     };
-    let (s, t) = parted(counts.first, unifier)?;
-    let made = resolved_by(
-        alloc,
-        &p.statement.clause,
-        &q.statement.clause,
-        literals,
-        &s,
-        &t,
-    )?;
-    let Literals { i, part, j } = literals;
-    append_from_both(alloc, p, q, made, Rule::Resolve { i, part, j, s, t }, out)
+    let literals = Literals { i, part, j };
+    let (p, q) = (&pair.p.statement.clause, &pair.q.statement.clause);
+    let made = resolvent_of(alloc, literals, (p, &s), (q, &t))?;
+    let rule = Rule::Resolve { i, part, j, s, t };
+    append_from_both(alloc, pair.p, pair.q, Some(made), rule, out)
 }
 
-/// Resolves an atom of the succedent of p with each of these atoms of q, whose variables are raised.
+/// Resolves an atom of the succedent of p with each of these atoms of this part of q.
 fn resolve_each(
     alloc: Global,
-    p: &Kept,
-    q: &Kept,
-    counts: Counts,
+    pair: Pair,
     part: Part,
-    i: u32,
-    a: &Atom,
-    atoms: &[(u32, Atom)],
+    first: (u32, &Atom),
+    atoms: &[(u32, &Atom)],
     out: &mut Vec<Line>,
 ) -> Result<(), InferError>
-    requires first { counts.first ≡ variables (clause_of p.now) }
-    requires both { counts.both ≡ variables_of_both p.now q.now }
-    requires a_below { IsAtomBelow counts.both a.now }
-    requires atoms_below { AreAtomsBelow counts.both atoms.now }
+    requires pair { IsPair pair }
+    requires first { atom_at Succedent first.0 (clause_of pair.p.now) ≡ Some first.1.now }
+    requires atoms { AreInPlace (clause_of pair.q.now) part atoms.now }
     ensures { Appended
-        (flat_map (resolve_raised part p.now q.now (i, a.now)) atoms.now)
+        (flat_map (λ y. resolve part pair.entry.p.now pair.entry.q.now (first.entry.0, first.entry.1.now) (y.0, y.1.now))
+        atoms.now)
         out.old.items out.new.items result }
 {
     for k in 0..atoms.len() {
-        let (j, b) = &atoms[k];
-        let literals = Literals { i, part, j: *j };
-        if let Err(error) = resolve(alloc, p, q, counts, literals, a, b, out) {
+        if let Err(error) = resolve(alloc, pair, part, first, atoms[k], out) {
             return Err(error);
         }
     }
     Ok(())
 }
 
-/// Resolves each of these atoms of the succedent of p with each of those of q, whose variables are raised.
+/// Resolves each of these atoms of the succedent of p with each of those of this part of q.
 fn resolve_all(
     alloc: Global,
-    p: &Kept,
-    q: &Kept,
-    counts: Counts,
+    pair: Pair,
     part: Part,
     places: &[(u32, &Atom)],
-    atoms: &[(u32, Atom)],
+    atoms: &[(u32, &Atom)],
     out: &mut Vec<Line>,
 ) -> Result<(), InferError>
-    requires first { counts.first ≡ variables (clause_of p.now) }
-    requires both { counts.both ≡ variables_of_both p.now q.now }
-    requires places_below { AreLentBelow counts.both places.now }
-    requires atoms_below { AreAtomsBelow counts.both atoms.now }
+    requires pair { IsPair pair }
+    requires places { AreInPlace (clause_of pair.p.now) Succedent places.now }
+    requires atoms { AreInPlace (clause_of pair.q.now) part atoms.now }
     ensures { Appended
-        (flat_map (λ x. flat_map (resolve_raised part p.now q.now (x.0, x.1.now)) atoms.now) places.now)
+        (flat_map (λ x. flat_map (λ y. resolve part pair.entry.p.now pair.entry.q.now (x.0, x.1.now) (y.0, y.1.now))
+        atoms.now) places.now)
         out.old.items out.new.items result }
 {
     for k in 0..places.len() {
-        let (i, a) = &places[k];
-        if let Err(error) = resolve_each(alloc, p, q, counts, part, *i, a, atoms, out) {
+        if let Err(error) = resolve_each(alloc, pair, part, places[k], atoms, out) {
             return Err(error);
         }
     }
     Ok(())
 }
 
-/// Appends the resolvents of the eligible predicate atoms of the succedent of p with those of this part of q, in
-/// the order
-/// of their places.
+/// Resolves the eligible atoms of the succedent of the first premise with those of the antecedent of the second one.
+pub(crate) fn resolve_premises(
+    alloc: Global,
+    p: &Premise,
+    q: &Premise,
+    out: &mut Vec<Line>,
+) -> Result<(), InferError>
+    requires p_found { IsFound p.now }
+    requires q_found { IsFound q.now }
+    ensures { Appended (resolutions Antecedent p.now.kept.now q.now.kept.now) out.old.items out.new.items result }
+{
+    let Some(pair) = Pair::new(p.kept, p.variables, q.kept, q.variables) else {
+        return Err(InferError::Memory);
+    };
+    resolve_all(
+        alloc,
+        pair,
+        Part::Antecedent,
+        p.succedent.as_slice(),
+        q.antecedent.as_slice(),
+        out,
+    )
+}
+
+/// Appends the resolvents of the eligible predicate atoms of the succedent of p with those of this part of q, in the
+/// order of their places.
 ///
 /// # Errors
 ///
-/// `Big` exactly where the next conclusion has more than 4,096 symbols; `Memory` only where there is no memory.
-/// What comes
-/// before it in the list was appended.
+/// `Big` exactly where the next conclusion has more than 4,096 symbols; `Memory` only where there is no memory. What
+/// comes before it in the list was appended.
 pub fn resolutions(
     alloc: Global,
     part: Part,
@@ -181,22 +161,11 @@ pub fn resolutions(
     ensures { Appended (resolutions part p.now q.now) out.old.items out.new.items result }
 {
     let places = eligible_in(alloc, p, Part::Succedent)?;
-    let others = eligible_in(alloc, q, part)?;
+    let atoms = eligible_in(alloc, q, part)?;
     let first = variables(alloc, &p.statement.clause)?;
     let second = variables(alloc, &q.statement.clause)?;
-    let Some(both) = first.checked_add(second) else {
+    let Some(pair) = Pair::new(p, first, q, second) else {
         return Err(InferError::Memory);
     };
-    let atoms = raised_atoms(alloc, first, others.as_slice())?;
-    let counts = Counts { first, both };
-    resolve_all(
-        alloc,
-        p,
-        q,
-        counts,
-        part,
-        places.as_slice(),
-        atoms.as_slice(),
-        out,
-    )
+    resolve_all(alloc, pair, part, places.as_slice(), atoms.as_slice(), out)
 }

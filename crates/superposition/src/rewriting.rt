@@ -1,35 +1,43 @@
 //! Superposition: an equation of one premise at the subterms of another.
-ghost use Rattle.std.specs.Prelude.{◌≡◌, ℕ, ◌≤◌, ◌&&◌, ◌∷◌, ◌++◌, [], Some, true, option_map, slice_get, IfOk, OnOk};
+ghost use Rattle.std.specs.Prelude.{◌≡◌, ℕ, List, ◌≤◌, ◌&&◌, ◌∷◌, ◌++◌, [], map, Some, true, option_map, slice_get, IfOk, OnOk};
 ghost use Rattle.std.specs.List.{flat_map, enumerate_from};
 ghost use Rattle.spl_terms.specs.declared.term.Term.{Term};
 ghost use Rattle.spl_terms.specs.declared.atom.Atom.TheVariants.{Equal};
+ghost use Rattle.spl_terms.specs.declared.clause.Part.TheVariants.{Antecedent, Succedent};
 ghost use Rattle.spl_terms.specs.Clauses.{clause_symbols, in_order};
 ghost use Rattle.spl_terms.specs.InOrder.{IsInOrder};
-ghost use Rattle.spl_truth.specs.Unifiers.{HasVariablesBelow};
+ghost use Rattle.spl_truth.specs.Unifiers.{HasVariablesBelow, HaveVariablesBelow};
 ghost use Rattle.proof_steps.specs.Spots.{term_under};
 ghost use Rattle.proof_steps.specs.Steps.{has_entries, paramodulation};
-ghost use Rattle.calculus.specs.Inferences.{clause_of, paths_in, superpositions};
+ghost use Rattle.spl_truth.specs.Truth.{entry};
+ghost use Rattle.unify.specs.Bindings.{substitution, IsTriangular};
+ghost use Rattle.calculus.specs.Inferences.{clause_of, renamed_apart, is_upper_side, rewriting_unifier, paths_in, superpositions};
 ghost use Rattle.superposition.specs.Appending.{Appended};
-ghost use Rattle.superposition.specs.Words.{AreAtomsBelow};
-ghost use Rattle.superposition.specs.Readings.{reading_of, AreLeftSidesBelow};
-ghost use Rattle.superposition.specs.Walks.{IsCounted, IsReady, superpose_in, superpose_in_parts};
+ghost use Rattle.superposition.specs.Words.{AreInPlace};
+ghost use Rattle.superposition.specs.Pairs.{IsPair, AreRestrictions, raised};
+ghost use Rattle.superposition.specs.Readings.{reading_of};
+ghost use Rattle.superposition.specs.Premises.{IsFound};
+ghost use Rattle.superposition.specs.Walks.{IsUsable, AreUsable, IsReady, IsUpperAt, IsSide};
+ghost use Rattle.superposition.specs.Walks.{superpose_in, superpose_lent, superpose_in_parts};
 ghost use Rattle.superposition.specs.Walks.{rewrite, rewrite_below, rewrite_argument};
 
 use crate::appending::append_from_both;
-use crate::equations::{Equation, readings_of};
+use crate::equations::Equation;
 use crate::error::InferError;
-use crate::ordering::{is_always_below, keeps_order};
+use crate::ordering::{Standing, standings};
 use crate::pairs::Pair;
-use crate::premises::{eligible_in, raised_atoms, variables};
-use crate::unifiers::parted;
+use crate::premises::Premise;
+use crate::raising::raised;
+use crate::unifiers::restrictions;
+use crate::upper::{is_left_upper, is_upper_raised};
 use calculus::Kept;
 use proof_steps::{Line, Rule, paramodulated};
 use spl_terms::{Atom, Clause, Items, Part, Spot, Term};
-use spl_truth::{Subst, instance};
+use spl_truth::{Subst, instance, laws};
 use std::alloc::{AllocError, Global};
-use unify::unify;
+use unify::{Bindings, fits, unify_bound};
 
-/// An equation of the first premise on its way through an atom of the second one, whose variables are raised.
+/// An equation of the first premise on its way through an atom of the second one.
 #[derive(Clone, Copy, Debug)]
 struct Rewriting<'a> {
     pair: Pair<'a>,
@@ -37,24 +45,98 @@ struct Rewriting<'a> {
     part: Part,
     place: u32,
     atom: &'a Atom,
+    /// How the side of the atom on which the way lies stands to the other one; `Upper` in a predicate atom.
+    side: Standing,
+}
+
+// ---- at one subterm
+
+/// Whether the path lies in a side whose instance isn't below that of the other one, where that isn't known of all
+/// instances.
+fn is_path_upper<'a>(
+    alloc: Global,
+    bindings: &Bindings<'a>,
+    r: Rewriting,
+    path: &[u32],
+) -> Result<bool, AllocError>
+    requires triangular { IsTriangular bindings.now.0 bindings.now.1 }
+    requires pair { IsPair r.pair }
+    requires upper { IsUpperAt r path.now }
+    ensures { IfOk result (λ yes. (u : List Term) → entry u ≡ substitution bindings.now.1
+        → yes ≡ is_upper_side u (renamed_apart r.entry.pair.p.now r.entry.atom.now) path.now) }
+{
+    if let Standing::Upper = r.side {
+        return Ok(true);
+    }
+    let lift = r.pair.first;
+    match r.atom {
+        Atom::Holds(_, _) => Ok(true),
+        Atom::Equal(left, right) => match path {
+            [] => Ok(false),
+            [side, ..] => {
+                if *side == 0 {
+                    is_upper_raised(alloc, bindings, lift, left, right)
+                } else {
+                    is_upper_raised(alloc, bindings, lift, right, left)
+                }
+            }
+        },
+    }
+}
+
+/// The unifier of the left side and this term, which stands at the end of the path, where they have one that keeps the
+/// order: the left side isn't below the right one, and the path lies in an upper side.
+fn unifier_in_order(
+    alloc: Global,
+    r: Rewriting,
+    path: &[u32],
+    term: &Term,
+) -> Result<Option<(Subst, Subst)>, AllocError>
+    requires ready { IsReady r }
+    requires stands { term_under path.now (renamed_apart r.pair.p.now r.atom.now) ≡ Some (raised r.pair.first term.now) }
+    requires below { HasVariablesBelow r.pair.both (raised r.pair.first term.now) }
+    requires upper { IsUpperAt r path.now }
+    ensures { IfOk result (AreRestrictions r.entry.pair.first
+        (rewriting_unifier r.entry.pair.both (reading_of r.entry.equation)
+        (renamed_apart r.entry.pair.p.now r.entry.atom.now) path.now)) }
+{
+    laws::unifier_is_most_general();
+    let (pair, e) = (r.pair, r.equation);
+    if !fits(e.left_side, term) {
+        return Ok(None);
+    }
+    let higher = raised(alloc, pair.first, term)?;
+    let Some(bindings) = unify_bound(alloc, e.left_side, &higher, pair.both)? else {
+        return Ok(None);
+    };
+    let high = is_left_upper(alloc, &bindings, e)?;
+    if !high {
+        return Ok(None);
+    }
+    let upper = is_path_upper(alloc, &bindings, r, path)?;
+    if !upper {
+        return Ok(None);
+    }
+    let both = restrictions(alloc, &bindings, pair)?;
+    Ok(Some(both))
 }
 
 /// What superposition concludes by these substitutions, before it is put in order.
 fn superposed(
     alloc: Global,
-    p: &Clause,
-    q: &Clause,
+    pair: Pair,
     e: Equation,
     spot: &Spot,
     s: &Subst,
     t: &Subst,
 ) -> Result<Option<Clause>, AllocError>
-    requires { (has_entries s.now.terms p.now && has_entries t.now.terms q.now) ≡ true }
+    requires { (has_entries s.now.terms (clause_of pair.p.now) && has_entries t.now.terms (clause_of pair.q.now)) ≡ true }
     ensures { IfOk result (λ made. option_map in_order made ≡
-        paramodulation e.entry.place e.entry.right spot.now s.now.terms t.now.terms p.now q.now) }
+        paramodulation e.entry.place e.entry.right spot.now s.now.terms t.now.terms
+        (clause_of pair.entry.p.now) (clause_of pair.entry.q.now)) }
 {
-    let first = instance(alloc, s, p)?;
-    let second = instance(alloc, t, q)?;
+    let first = instance(alloc, s, &pair.p.statement.clause)?;
+    let second = instance(alloc, t, &pair.q.statement.clause)?;
     paramodulated(alloc, e.place, e.right, spot, first, second)
 }
 
@@ -68,42 +150,25 @@ fn superpose(
     out: &mut Vec<Line>,
 ) -> Result<(), InferError>
     requires ready { IsReady r }
-    requires stands { term_under path.now r.atom.now ≡ Some term.now }
+    requires stands { term_under path.now (renamed_apart r.pair.p.now r.atom.now) ≡ Some (raised r.pair.first term.now) }
+    requires below { HasVariablesBelow r.pair.both (raised r.pair.first term.now) }
+    requires upper { IsUpperAt r path.now }
     ensures { Appended (rewrite r.entry path.now) out.old.items out.new.items result }
 {
-    let Rewriting {
-        pair,
-        equation,
-        part,
-        place,
-        atom,
-    } = r;
-    let Some(unifier) = unify(alloc, equation.left_side, term, pair.both)? else {
+    let Some((s, t)) = unifier_in_order(alloc, r, path, term)? else {
         return Ok(());
     };
-    let high = keeps_order(alloc, &unifier, equation, atom, path)?;
-    if !high {
-        return Ok(());
-    }
-    let (s, t) = parted(pair.first, unifier)?;
+    let (pair, e, part, place) = (r.pair, r.equation, r.part, r.place);
     let held = Items::from_slice(alloc, path)?;
     let spot = Spot {
         part,
         place,
         path: held,
     };
-    let made = superposed(
-        alloc,
-        &pair.p.statement.clause,
-        &pair.q.statement.clause,
-        equation,
-        &spot,
-        &s,
-        &t,
-    )?;
+    let made = superposed(alloc, pair, e, &spot, &s, &t)?;
     let rule = Rule::Paramodulate {
-        i: equation.place,
-        right_to_left: equation.right,
+        i: e.place,
+        right_to_left: e.right,
         spot,
         s,
         t,
@@ -131,7 +196,9 @@ fn superpose_in_term(
     out: &mut Vec<Line>,
 ) -> Result<(), InferError>
     requires ready { IsReady r }
-    requires stands { term_under path.old.items r.atom.now ≡ Some term.now }
+    requires stands { term_under path.old.items (renamed_apart r.pair.p.now r.atom.now) ≡ Some (raised r.pair.first term.now) }
+    requires below { HasVariablesBelow r.pair.both (raised r.pair.first term.now) }
+    requires upper { IsUpperAt r path.old.items }
     ensures appended { Appended
         (rewrite_below r.entry path.old.items (paths_in term.now))
         out.old.items out.new.items result }
@@ -159,7 +226,9 @@ fn superpose_in_arguments(
 ) -> Result<(), InferError>
     requires ready { IsReady r }
     requires stand { (k : ℕ) (t : Term) → slice_get terms.now k ≡ Some t
-        → term_under (path.old.items ++ k ∷ []) r.atom.now ≡ Some t }
+        → term_under (path.old.items ++ k ∷ []) (renamed_apart r.pair.p.now r.atom.now) ≡ Some (raised r.pair.first t) }
+    requires below { HaveVariablesBelow r.pair.both (map (raised r.pair.first) terms.now) }
+    requires upper { (k : ℕ) → IsUpperAt r (path.old.items ++ k ∷ []) }
     ensures appended { Appended
         (flat_map (rewrite_argument r.entry path.old.items) (enumerate_from 0 terms.now))
         out.old.items out.new.items result }
@@ -178,66 +247,24 @@ fn superpose_in_arguments(
     Ok(())
 }
 
-/// Superposes at the argument that stands at this place below the path, and at all that stands in it.
-fn superpose_in_argument(
+/// Superposes at a side of an equation, unless it is below the other one, and at all that stands in it.
+fn superpose_in_side(
     alloc: Global,
     r: Rewriting,
-    path: &mut Vec<u32>,
-    place: u32,
+    side: u32,
     term: &Term,
     out: &mut Vec<Line>,
 ) -> Result<(), InferError>
     requires ready { IsReady r }
-    requires stands { term_under (path.old.items ++ place ∷ []) r.atom.now ≡ Some term.now }
-    ensures appended { Appended
-        (rewrite_argument r.entry path.old.items (place, term.now))
-        out.old.items out.new.items result }
-    ensures path { OnOk result (path.new.items ≡ path.old.items) }
+    requires side { IsSide r side term.now }
+    ensures { Appended (rewrite_argument r.entry [] (side, term.now)) out.old.items out.new.items result }
 {
-    go_into(path, place)?;
-    if let Err(error) = superpose_in_term(alloc, r, path, term, out) {
-        return Err(error);
-    }
-    path.pop();
-    Ok(())
-}
-
-/// Superposes at the left side of an equation, unless it is below the right one, and at all that stands in it.
-fn superpose_in_left_side(
-    alloc: Global,
-    r: Rewriting,
-    left: &Term,
-    right: &Term,
-    out: &mut Vec<Line>,
-) -> Result<(), InferError>
-    requires ready { IsReady r }
-    requires sides { r.atom.now ≡ Equal left.now right.now }
-    ensures { Appended (rewrite_argument r.entry [] (0, left.now)) out.old.items out.new.items result }
-{
-    if is_always_below(left, right) {
+    if let Standing::Lower = r.side {
         return Ok(());
     }
     let mut path = Vec::new(alloc);
-    superpose_in_argument(alloc, r, &mut path, 0, left, out)
-}
-
-/// Superposes at the right side of an equation, unless it is below the left one, and at all that stands in it.
-fn superpose_in_right_side(
-    alloc: Global,
-    r: Rewriting,
-    left: &Term,
-    right: &Term,
-    out: &mut Vec<Line>,
-) -> Result<(), InferError>
-    requires ready { IsReady r }
-    requires sides { r.atom.now ≡ Equal left.now right.now }
-    ensures { Appended (rewrite_argument r.entry [] (1, right.now)) out.old.items out.new.items result }
-{
-    if is_always_below(right, left) {
-        return Ok(());
-    }
-    let mut path = Vec::new(alloc);
-    superpose_in_argument(alloc, r, &mut path, 1, right, out)
+    go_into(&mut path, side)?;
+    superpose_in_term(alloc, r, &mut path, term, out)
 }
 
 /// Superposes at both sides of an equation, and at all that stands in them.
@@ -254,10 +281,13 @@ fn superpose_in_sides(
         (rewrite_argument r.entry [] (0, left.now) ++ rewrite_argument r.entry [] (1, right.now))
         out.old.items out.new.items result }
 {
-    if let Err(error) = superpose_in_left_side(alloc, r, left, right, out) {
+    let (forth, back) = standings(left, right);
+    let first = Rewriting { side: forth, ..r };
+    if let Err(error) = superpose_in_side(alloc, first, 0, left, out) {
         return Err(error);
     }
-    superpose_in_right_side(alloc, r, left, right, out)
+    let second = Rewriting { side: back, ..r };
+    superpose_in_side(alloc, second, 1, right, out)
 }
 
 /// Superposes at all subterms of the atom that are no variables.
@@ -279,31 +309,33 @@ fn superpose_in_atom(alloc: Global, r: Rewriting, out: &mut Vec<Line>) -> Result
 
 // ---- all equations and atoms
 
-/// Superposes the equation in each of these atoms of a part of the second premise, whose variables are raised.
+/// Superposes the equation in each of these atoms of a part of the second premise.
 fn superpose_in_atoms(
     alloc: Global,
     pair: Pair,
     equation: Equation,
     part: Part,
-    atoms: &[(u32, Atom)],
+    atoms: &[(u32, &Atom)],
     out: &mut Vec<Line>,
 ) -> Result<(), InferError>
-    requires counted { IsCounted pair }
-    requires left_below { HasVariablesBelow pair.both equation.left_side.now }
-    requires atoms_below { AreAtomsBelow pair.both atoms.now }
+    requires pair { IsPair pair }
+    requires equation { IsUsable pair equation }
+    requires atoms { AreInPlace (clause_of pair.q.now) part atoms.now }
     ensures { Appended
-        (flat_map (superpose_in pair.entry.p.now pair.entry.q.now (reading_of equation.entry) part) atoms.now)
+        (flat_map (superpose_lent pair.entry.p.now pair.entry.q.now (reading_of equation.entry) part) atoms.now)
         out.old.items out.new.items result }
 {
     for k in 0..atoms.len() {
-        let (place, atom) = &atoms[k];
-        let place = *place;
+        let y = atoms[k];
+        let (place, atom) = y;
+        let side = Standing::Upper;
         let r = Rewriting {
             pair,
             equation,
             part,
             place,
             atom,
+            side,
         };
         if let Err(error) = superpose_in_atom(alloc, r, out) {
             return Err(error);
@@ -317,19 +349,19 @@ fn superpose_in_both(
     alloc: Global,
     pair: Pair,
     equation: Equation,
-    antecedent: &[(u32, Atom)],
-    succedent: &[(u32, Atom)],
+    antecedent: &[(u32, &Atom)],
+    succedent: &[(u32, &Atom)],
     out: &mut Vec<Line>,
 ) -> Result<(), InferError>
-    requires counted { IsCounted pair }
-    requires left_below { HasVariablesBelow pair.both equation.left_side.now }
-    requires antecedent_below { AreAtomsBelow pair.both antecedent.now }
-    requires succedent_below { AreAtomsBelow pair.both succedent.now }
+    requires pair { IsPair pair }
+    requires equation { IsUsable pair equation }
+    requires antecedent { AreInPlace (clause_of pair.q.now) Antecedent antecedent.now }
+    requires succedent { AreInPlace (clause_of pair.q.now) Succedent succedent.now }
     ensures { Appended
         (superpose_in_parts pair.entry.p.now pair.entry.q.now antecedent.now succedent.now (reading_of equation.entry))
         out.old.items out.new.items result }
 {
-    if is_always_below(equation.left_side, equation.right_side) {
+    if let Standing::Lower = equation.standing {
         return Ok(());
     }
     if let Err(error) = superpose_in_atoms(
@@ -350,37 +382,54 @@ fn superpose_all(
     alloc: Global,
     pair: Pair,
     equations: &[Equation],
-    antecedent: &[(u32, Atom)],
-    succedent: &[(u32, Atom)],
+    antecedent: &[(u32, &Atom)],
+    succedent: &[(u32, &Atom)],
     out: &mut Vec<Line>,
 ) -> Result<(), InferError>
-    requires counted { IsCounted pair }
-    requires equations_below { AreLeftSidesBelow pair.both equations.now }
-    requires antecedent_below { AreAtomsBelow pair.both antecedent.now }
-    requires succedent_below { AreAtomsBelow pair.both succedent.now }
+    requires pair { IsPair pair }
+    requires equations { AreUsable pair equations.now }
+    requires antecedent { AreInPlace (clause_of pair.q.now) Antecedent antecedent.now }
+    requires succedent { AreInPlace (clause_of pair.q.now) Succedent succedent.now }
     ensures { Appended
         (flat_map (λ e. superpose_in_parts pair.entry.p.now pair.entry.q.now antecedent.now succedent.now (reading_of
         e)) equations.now)
         out.old.items out.new.items result }
 {
     for k in 0..equations.len() {
-        if let Err(error) = superpose_in_both(
-            alloc,
-            pair,
-            equations[k],
-            antecedent,
-            succedent,
-            out,
-        ) {
+        let equation = equations[k];
+        if let Err(error) = superpose_in_both(alloc, pair, equation, antecedent, succedent, out) {
             return Err(error);
         }
     }
     Ok(())
 }
 
-/// Appends what each eligible equation of the succedent of p, read in both directions, gives at each subterm of
-/// the eligible
-/// atoms of q that is no variable, in the order of a walk.
+/// Superposes each eligible equation of the first premise in the eligible atoms of the second one.
+pub(crate) fn superpose_premises(
+    alloc: Global,
+    p: &Premise,
+    q: &Premise,
+    out: &mut Vec<Line>,
+) -> Result<(), InferError>
+    requires p_found { IsFound p.now }
+    requires q_found { IsFound q.now }
+    ensures { Appended (superpositions p.now.kept.now q.now.kept.now) out.old.items out.new.items result }
+{
+    let Some(pair) = Pair::new(p.kept, p.variables, q.kept, q.variables) else {
+        return Err(InferError::Memory);
+    };
+    superpose_all(
+        alloc,
+        pair,
+        p.equations.as_slice(),
+        q.antecedent.as_slice(),
+        q.succedent.as_slice(),
+        out,
+    )
+}
+
+/// Appends what each eligible equation of the succedent of p, read in both directions, gives at each subterm of the
+/// eligible atoms of q that is no variable, in the order of a walk.
 ///
 /// # Errors
 ///
@@ -397,24 +446,7 @@ pub fn superpositions(
     requires q_size { clause_symbols (clause_of q.now) ≤ 4096 }
     ensures { Appended (superpositions p.now q.now) out.old.items out.new.items result }
 {
-    let places = eligible_in(alloc, p, Part::Succedent)?;
-    let equations = readings_of(alloc, places.as_slice())?;
-    let antecedent = eligible_in(alloc, q, Part::Antecedent)?;
-    let succedent = eligible_in(alloc, q, Part::Succedent)?;
-    let first = variables(alloc, &p.statement.clause)?;
-    let second = variables(alloc, &q.statement.clause)?;
-    let Some(both) = first.checked_add(second) else {
-        return Err(InferError::Memory);
-    };
-    let raised_antecedent = raised_atoms(alloc, first, antecedent.as_slice())?;
-    let raised_succedent = raised_atoms(alloc, first, succedent.as_slice())?;
-    let pair = Pair { p, q, first, both };
-    superpose_all(
-        alloc,
-        pair,
-        equations.as_slice(),
-        raised_antecedent.as_slice(),
-        raised_succedent.as_slice(),
-        out,
-    )
+    let first = Premise::new(alloc, p)?;
+    let second = Premise::new(alloc, q)?;
+    superpose_premises(alloc, &first, &second, out)
 }

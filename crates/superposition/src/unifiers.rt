@@ -1,14 +1,122 @@
-//! Unifiers of atoms and terms, as their entries.
-ghost use Rattle.std.specs.Prelude.{◌≡◌, take, drop, option_map, IfOk};
-ghost use Rattle.spl_terms.specs.declared.term.Term.{Term};
-ghost use Rattle.spl_truth.specs.Unifiers.{HasVariablesBelow, unifier};
-ghost use Rattle.calculus.specs.Inferences.{atom_unifier, sides_unifier};
+//! Unifiers of atoms and of equations, found as bindings and written out once they are wanted.
+ghost use Rattle.std.specs.Prelude.{◌≡◌, ◌≤◌, ◌&&◌, map, drop, option_map, option_and_then, IfOk, Some};
+ghost use Rattle.spl_terms.specs.declared.term.Symbol.{Symbol};
+ghost use Rattle.spl_terms.specs.declared.term.Term.{App};
+ghost use Rattle.spl_truth.specs.Unifiers.{HasVariablesBelow, HaveVariablesBelow, entries_below, unifier};
+ghost use Rattle.calculus.specs.Inferences.{atom_unifier, sides_unifier, renamed_apart};
+ghost use Rattle.unify.specs.Bindings.{substitution, IsTriangular};
 ghost use Rattle.superposition.specs.Words.{IsAtomBelow};
+ghost use Rattle.superposition.specs.Pairs.{IsPair, AreRestrictions, raised};
 
+use crate::pairs::Pair;
+use crate::raising::all_raised;
 use spl_terms::{Atom, Items, Term};
 use spl_truth::{Subst, laws};
 use std::alloc::{AllocError, Global};
-use unify::{unify, unify_arguments};
+use unify::{Bindings, all_fit, unify, unify_arguments, unify_arguments_bound};
+
+// ---- bindings written out
+
+/// What the variables from one on and below another stand for. The only error is want of memory.
+fn entries_from<'a>(
+    alloc: Global,
+    bindings: &Bindings<'a>,
+    from: u32,
+    past: u32,
+) -> Result<Subst, AllocError>
+    requires triangular { IsTriangular bindings.now.0 bindings.now.1 }
+    requires order { from ≤ past }
+    ensures { IfOk result (λ subst. subst.terms ≡ drop from (entries_below past (substitution bindings.now.1))) }
+{
+    let mut terms = Items::with_room(alloc, (past - from) as usize)?;
+    for variable in from..past {
+        terms.push(bindings.applied_entry(alloc, variable)?)?;
+    }
+    Ok(Subst { terms })
+}
+
+/// The unifier for which the bindings stand. The only error is want of memory.
+pub(crate) fn written<'a>(
+    alloc: Global,
+    bindings: &Bindings<'a>,
+    vars: u32,
+) -> Result<Subst, AllocError>
+    requires { IsTriangular bindings.now.0 bindings.now.1 }
+    ensures { IfOk result (λ subst. subst.terms ≡ entries_below vars (substitution bindings.now.1)) }
+{
+    entries_from(alloc, bindings, 0, vars)
+}
+
+/// The entries of the first premise and those of the second one. The only error is want of memory.
+pub(crate) fn restrictions<'a>(
+    alloc: Global,
+    bindings: &Bindings<'a>,
+    pair: Pair,
+) -> Result<(Subst, Subst), AllocError>
+    requires triangular { IsTriangular bindings.now.0 bindings.now.1 }
+    requires pair { IsPair pair }
+    ensures { IfOk result (λ made. AreRestrictions pair.entry.first
+        (Some (entries_below pair.entry.both (substitution bindings.now.1))) (Some made)) }
+{
+    let s = written(alloc, bindings, pair.first)?;
+    let t = entries_from(alloc, bindings, pair.first, pair.both)?;
+    Ok((s, t))
+}
+
+// ---- atoms of two premises
+
+/// The unifier of two lists of arguments, where the variables of the second one are raised, if they have one.
+fn unifier_of_arguments_apart(
+    alloc: Global,
+    pair: Pair,
+    args: &[Term],
+    others: &[Term],
+) -> Result<Option<(Subst, Subst)>, AllocError>
+    requires pair { IsPair pair }
+    requires args_below { HaveVariablesBelow pair.both args.now }
+    requires others_below { HaveVariablesBelow pair.both (map (raised pair.first) others.now) }
+    ensures { (head : Symbol) → IfOk result (AreRestrictions pair.entry.first
+        (unifier pair.entry.both (App head args.now) (App head (map (raised pair.entry.first) others.now)))) }
+{
+    laws::unifier_is_most_general();
+    if !all_fit(args, others) {
+        return Ok(None);
+    }
+    let higher = all_raised(alloc, pair.first, others)?;
+    let Some(bindings) = unify_arguments_bound(alloc, args, higher.as_slice(), pair.both)? else {
+        return Ok(None);
+    };
+    let both = restrictions(alloc, &bindings, pair)?;
+    Ok(Some(both))
+}
+
+/// The unifier of two predicate atoms, where the variables of the second one are raised, if they have one. Their heads
+/// are compared first.
+pub(crate) fn unifier_apart(
+    alloc: Global,
+    pair: Pair,
+    a: &Atom,
+    b: &Atom,
+) -> Result<Option<(Subst, Subst)>, AllocError>
+    requires pair { IsPair pair }
+    requires a_below { IsAtomBelow pair.both a.now }
+    requires b_below { IsAtomBelow pair.both (renamed_apart pair.p.now b.now) }
+    ensures { IfOk result (AreRestrictions pair.entry.first
+        (atom_unifier pair.entry.both a.now (renamed_apart pair.entry.p.now b.now))) }
+{
+    laws::unifier_is_most_general();
+    match (a, b) {
+        (Atom::Holds(head, args), Atom::Holds(other, others)) => {
+            if !head.same(*other) {
+                return Ok(None);
+            }
+            unifier_of_arguments_apart(alloc, pair, args.as_slice(), others.as_slice())
+        }
+        _ => Ok(None),
+    }
+}
+
+// ---- atoms of one premise
 
 /// The unifier of two predicate atoms, if they have one. Their heads are compared first.
 pub(crate) fn unifier_of_atoms(
@@ -46,24 +154,4 @@ pub(crate) fn unifier_of_sides(
         Atom::Holds(_, _) => Ok(None),
         Atom::Equal(left, right) => unify(alloc, left, right, vars),
     }
-}
-
-/// The first entries of a substitution, and the others, in its own memory.
-pub(crate) fn parted(lower: u32, subst: Subst) -> Result<(Subst, Subst), AllocError>
-    ensures { IfOk result (λ both. (both.0.terms ≡ take lower subst.terms) × (both.1.terms ≡ drop lower subst.terms)) }
-{
-    let Subst { terms } = subst;
-    let mut first = terms.into_vec();
-    if lower as usize > first.len() {
-        return Err(AllocError);
-    }
-    let second = first.split_off(lower as usize)?;
-    Ok((
-        Subst {
-            terms: Items::from_vec(first),
-        },
-        Subst {
-            terms: Items::from_vec(second),
-        },
-    ))
 }

@@ -103,6 +103,18 @@ impl<'a> Bindings<'a> {
         all_applied(alloc, self, terms)
     }
 
+    /// What the variable stands for, with the bindings applied, in a copy of its own; an unbound variable stands for
+    /// itself. The only error is want of memory.
+    pub fn applied_entry(&self, alloc: Global, variable: u32) -> Result<Term, AllocError>
+        requires { IsTriangular self.now.0 self.now.1 }
+        ensures { IfOk result (λ made. made ≡ substitution self.now.1 variable) }
+    {
+        match self.get(variable) {
+            Some(term) => applied(alloc, self, term),
+            None => Ok(Term::Var(variable)),
+        }
+    }
+
     /// How many symbols the term has with the bindings applied, or the limit where there are as many or more: a
     /// variable counts 1, an application 1 and its arguments. Nothing is built, and counting stops once the limit is
     /// reached.

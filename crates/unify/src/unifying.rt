@@ -157,10 +157,7 @@ fn push_entry<'a>(
     requires { IsTriangular bindings.now.0 bindings.now.1 }
     ensures { OnOk result (entries.new ≡ entries.old ++ substitution bindings.now.1 variable ∷ []) }
 {
-    match bindings.get(variable) {
-        Some(term) => entries.push(bindings.applied(alloc, term)?),
-        None => entries.push(Term::Var(variable)),
-    }
+    entries.push(bindings.applied_entry(alloc, variable)?)
 }
 
 /// What the variables below `vars` stand for, with the bindings applied. The only error is want of memory.

@@ -2,7 +2,7 @@ use Rattle.std.proofs.Common.{subst}
 use Rattle.spl_terms.specs.declared.clause.Part.TheVariants.{Constraint}
 use Rattle.calculus.specs.Inferences.{resolutions}
 use Rattle.superposition.specs.Appending.{Appended}
-use Rattle.superposition.proofs.Composing.{then_more, then_none}
+use Rattle.superposition.specs.AppendingLaws.{then_more, then_none}
 use Rattle.sort_inference.proofs.sorting.sort_steps.Goals as goal
 
 pub returns-in-Err : goal.returns-in-Err

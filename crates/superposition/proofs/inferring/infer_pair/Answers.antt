@@ -1,21 +1,9 @@
 use Rattle.std.proofs.Common.{subst}
-use Rattle.calculus.specs.Inferences.{from_to}
+use Rattle.calculus.specs.Inferences.{pair_inferences}
 use Rattle.superposition.specs.Appending.{Appended}
-use Rattle.superposition.proofs.Composing.{then_more, then_none}
 use Rattle.superposition.proofs.inferring.infer_pair.Goals as goal
-
-pub returns-in-Err : goal.returns-in-Err
-returns-in-Err c =
-    let a = c.args in
-    let first = from_to a.given.now a.other.now in
-    let second = from_to a.other.now a.given.now in
-    then_none first second a.out.now.items c.from_to.new.out.items c.in-Err.error (subst (λ r. Appended first a.out.now.items c.from_to.new.out.items r) c.in-Err.is c.from_to.ensures)
 
 pub returns : goal.returns
 returns c =
-    let a = c.args in
-    let first = from_to a.given.now a.other.now in
-    let second = from_to a.other.now a.given.now in
-    then_more first second a.out.now.items c.from_to.new.out.items c.from_to-2.new.out.items c.in_default.field-0 c.from_to-2.result
-    (subst (λ r. Appended first a.out.now.items c.from_to.new.out.items r) c.in_default.is c.from_to.ensures)
-    c.from_to-2.ensures
+    subst (λ k. Appended (pair_inferences c.args.given.now k) c.args.out.now.items c.infer_from_both.new.out.items c.infer_from_both.result) c.in_ok-second.ensures.0
+    (subst (λ k. Appended (pair_inferences k c.in_ok-second.second.kept.now) c.args.out.now.items c.infer_from_both.new.out.items c.infer_from_both.result) c.in_ok-first.ensures.0 c.infer_from_both.ensures)

@@ -1,10 +1,5 @@
 use Rattle.std.proofs.Common.{drop}
 use Rattle.std.specs.List.{flat_map}
-use Rattle.std.proofs.Common.{ℕ}
-use Rattle.std.specs.Borrow.{Bor}
-use Rattle.spl_terms.specs.declared.atom.Atom.{Atom}
-use Rattle.proof_steps.specs.declared.step.Line.{Line}
-use Rattle.superposition.specs.Words.{IsAtomBelow}
 use Rattle.superposition.specs.Readings.{factor_with}
 use Rattle.superposition.proofs.Composing.{LeadsOn}
 use Rattle.superposition.proofs.own.factor_all.Given as goal

@@ -1,8 +1,5 @@
 use Rattle.std.proofs.Common.{drop}
 use Rattle.std.specs.List.{flat_map}
-use Rattle.spl_truth.specs.Unifiers.{HasVariablesBelow}
-use Rattle.proof_steps.specs.declared.step.Line.{Line}
-use Rattle.superposition.specs.declared.equations.Equation.{Equation}
 use Rattle.superposition.specs.Readings.{reading_of, factor_apart}
 use Rattle.superposition.proofs.Composing.{LeadsOn}
 use Rattle.superposition.proofs.own.factor_equation_with_each.Given as goal

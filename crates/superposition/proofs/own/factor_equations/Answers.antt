@@ -4,6 +4,7 @@ use Rattle.spl_truth.specs.Unifiers.{HasVariablesBelow}
 use Rattle.proof_steps.specs.declared.step.Line.{Line}
 use Rattle.superposition.specs.declared.equations.Equation.{Equation}
 use Rattle.superposition.specs.Readings.{reading_of, factor_apart}
+use Rattle.superposition.specs.Standings.{IsStanding}
 use Rattle.superposition.specs.Appending.{Appended}
 use Rattle.superposition.proofs.Lists.{each_at}
 use Rattle.superposition.proofs.Composing.{loop_goes_on, loop_stops, loop_ends}
@@ -11,6 +12,9 @@ use Rattle.superposition.proofs.own.factor_equations.Goals as goal
 
 pub factor_equation_with_each-requires-clause-e_below : goal.factor_equation_with_each-requires-clause-e_below
 factor_equation_with_each-requires-clause-e_below c = each_at (λ e. HasVariablesBelow c.args.vars e.left_side.now) c.args.equations.now c.loop-k.k c.index-equations-k.result c.requires.equations_below c.loop-k-test.true c.index-equations-k.is
+
+pub factor_equation_with_each-requires-clause-judged : goal.factor_equation_with_each-requires-clause-judged
+factor_equation_with_each-requires-clause-judged c = each_at (λ e. IsStanding e.standing e.left_side.now e.right_side.now) c.args.equations.now c.loop-k.k c.index-equations-k.result c.requires.judged c.loop-k-test.true c.index-equations-k.is
 
 pub loop-k-preserved : goal.loop-k-preserved
 loop-k-preserved c =

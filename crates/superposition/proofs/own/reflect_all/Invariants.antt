@@ -1,13 +1,8 @@
 use Rattle.std.proofs.Common.{drop}
 use Rattle.std.specs.List.{flat_map}
-use Rattle.std.proofs.Common.{ℕ}
-use Rattle.std.specs.Borrow.{Bor}
-use Rattle.spl_terms.specs.declared.atom.Atom.{Atom}
-use Rattle.proof_steps.specs.declared.step.Line.{Line}
 use Rattle.spl_terms.specs.InOrder.{variables}
 use Rattle.proof_steps.specs.declared.step.Rule.TheVariants.{Reflex}
 use Rattle.calculus.specs.Inferences.{clause_of, by_unifier, sides_unifier}
-use Rattle.superposition.specs.Words.{IsAtomBelow}
 use Rattle.superposition.proofs.Composing.{LeadsOn}
 use Rattle.superposition.proofs.own.reflect_all.Given as goal
 

@@ -1,17 +1,16 @@
 use Rattle.std.proofs.Common.{arith, subst, List}
 use Rattle.std.specs.List.{flat_map}
-use Rattle.spl_truth.specs.Unifiers.{HasVariablesBelow}
 use Rattle.proof_steps.specs.declared.step.Line.{Line}
 use Rattle.superposition.specs.declared.equations.Equation.{Equation}
 use Rattle.superposition.specs.Readings.{reading_of}
-use Rattle.superposition.specs.Walks.{superpose_in_parts}
+use Rattle.superposition.specs.Walks.{IsUsable, superpose_in_parts}
 use Rattle.superposition.specs.Appending.{Appended}
 use Rattle.superposition.proofs.Lists.{each_at}
 use Rattle.superposition.proofs.Composing.{loop_goes_on, loop_stops, loop_ends}
 use Rattle.superposition.proofs.rewriting.superpose_all.Goals as goal
 
-pub superpose_in_both-requires-clause-left_below : goal.superpose_in_both-requires-clause-left_below
-superpose_in_both-requires-clause-left_below c = each_at (λ e. HasVariablesBelow c.args.pair.both e.left_side.now) c.args.equations.now c.loop-k.k c.index-equations-k.result c.requires.equations_below c.loop-k-test.true c.index-equations-k.is
+pub superpose_in_both-requires-clause-equation : goal.superpose_in_both-requires-clause-equation
+superpose_in_both-requires-clause-equation c = each_at (IsUsable c.args.pair) c.args.equations.now c.loop-k.k c.index-equations-k.result c.requires.equations c.loop-k-test.true c.index-equations-k.is
 
 pub loop-k-preserved : goal.loop-k-preserved
 loop-k-preserved c =

@@ -1,8 +1,5 @@
 use Rattle.std.proofs.Common.{drop}
 use Rattle.std.specs.List.{flat_map}
-use Rattle.spl_truth.specs.Unifiers.{HasVariablesBelow}
-use Rattle.proof_steps.specs.declared.step.Line.{Line}
-use Rattle.superposition.specs.declared.equations.Equation.{Equation}
 use Rattle.superposition.specs.Readings.{reading_of}
 use Rattle.superposition.specs.Walks.{superpose_in_parts}
 use Rattle.superposition.proofs.Composing.{LeadsOn}

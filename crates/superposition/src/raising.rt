@@ -1,0 +1,39 @@
+//! Terms with their variables raised, so that they have none in common with those of another clause.
+ghost use Rattle.std.specs.Prelude.{◌≡◌, map, IfOk};
+ghost use Rattle.superposition.specs.Pairs.{raised};
+
+use spl_terms::{Items, Term};
+use std::alloc::{AllocError, Global};
+
+#[cycle(raising)]
+#[tactic(auto, using(crate::proofs::Unified::replace_laws))]
+pub(crate) fn raised(alloc: Global, lift: u32, term: &Term) -> Result<Term, AllocError>
+    ensures { IfOk result (λ made. made ≡ raised lift term.now) }
+{
+    match term {
+        Term::Var(variable) => match lift.checked_add(*variable) {
+            Some(higher) => Ok(Term::Var(higher)),
+            None => Err(AllocError),
+        },
+        Term::App(symbol, args) => Ok(Term::App(
+            *symbol,
+            all_raised(alloc, lift, args.as_slice())?,
+        )),
+    }
+}
+
+#[cycle(raising)]
+#[tactic(auto, using(crate::proofs::Unified::replace_laws))]
+pub(crate) fn all_raised(
+    alloc: Global,
+    lift: u32,
+    terms: &[Term],
+) -> Result<Items<Term>, AllocError>
+    ensures { IfOk result (λ made. made ≡ map (raised lift) terms.now) }
+{
+    let mut made = Items::with_room(alloc, terms.len())?;
+    for term in terms {
+        made.push(raised(alloc, lift, term)?)?;
+    }
+    Ok(made)
+}
