@@ -1,10 +1,7 @@
 -- Each clause of a problem is spelled by the bytes, from its place on.
-use Rattle.std.proofs.Common.{◌≡◌, ℕ, zero, suc, ◌-◌, ◌⊎◌, inl, inr, Bool, true, false, List, [], ◌∷◌, ◌++◌, map, slice_get, Option, Some, option_map, Result, Ok, Err, IfOk, refl, sym, ap, subst, ◌∙◌, append_assoc}
-use Rattle.std.proofs.lemmas.Bool.{cases_Bool}
+use Rattle.std.proofs.Common.{◌≡◌, ℕ, zero, suc, ◌-◌, inl, inr, Bool, true, false, List, [], ◌∷◌, ◌++◌, map, slice_get, Option, Some, option_map, Result, Ok, Err, IfOk, refl, sym, ap, subst, ◌∙◌, append_assoc}
 use Rattle.std.proofs.lemmas.List.{map-append}
-use Rattle.std.proofs.lemmas.Slice.Eq.{bytes_eq-Decides}
 use Rattle.std.specs.Option.{unwrap_or}
-use Rattle.std.specs.Str.{bytes_eq}
 use Rattle.spl_terms.specs.declared.term.Symbol.{Symbol}
 use Rattle.spl_terms.specs.declared.term.Term.{Term}
 use Rattle.spl_terms.specs.declared.atom.Atom.{Atom}
@@ -16,7 +13,8 @@ use Rattle.dfg_tokens.specs.declared.piece.Mark.{Mark}
 use Rattle.dfg_tokens.specs.declared.piece.Mark.TheVariants.{OpenParenthesis, CloseParenthesis, Comma}
 use Rattle.dfg_tokens.specs.declared.piece.TokenKind.TheVariants as kinds
 use Rattle.dfg_tokens.specs.declared.token.Token.{Token}
-use Rattle.dfg_tokens.specs.Words.{spelling, first_word, word_of}
+use Rattle.dfg_tokens.specs.Words.{spelling, word_of}
+use Rattle.dfg_tokens.specs.WordLaws.{word_of-spelled}
 use Rattle.dfg_tokens.specs.Tokens.{token_bytes, tokens, IsSpelled, IsTokenOf, AreTokensOf}
 use Rattle.dfg_tokens.specs.TokenLaws.{own_tokens}
 use Rattle.dfg_reader.specs.declared.fault.InputError.{InputError}
@@ -41,23 +39,9 @@ pub record Spells (bytes : List ℕ) (ts : List Token) (ws : Spelling) (rest : L
 name_at : (ds : List Declared) (i : ℕ) (d : Declared) → slice_get ds i ≡ Some d → name_of ds i ≡ d.name
 name_at ds i d e = ap (λ (o : Option Declared). unwrap_or (option_map (λ (x : Declared). x.name) o) []) e
 
-first_spelled : (ws : List Word) (text : List ℕ) → (first_word ws text ≡ words.Plain) ⊎ (spelling (first_word ws text) ≡ text)
-first_spelled [] text = inl refl
-first_spelled (w ∷ ws) text =
-    elim (cases_Bool (bytes_eq (spelling w) text)) [
-      | inl e ↦ inr (rw e ((bytes_eq-Decides (spelling w) text).0 e))
-      | inr e ↦ rw e (first_spelled ws text)
-    ]
-
--- the words in the order in which they are looked up
-abbrev every_word : List Word
-every_word = words.Name ∷ words.Date ∷ words.Cnf ∷ words.Dnf ∷ words.Not ∷ words.And ∷ words.Or ∷ words.True ∷ words.Logic ∷ words.Sorts ∷ words.Equiv ∷ words.Equal ∷ words.False ∷ words.Author ∷ words.Status ∷ words.Axioms ∷ words.Clause ∷ words.Forall ∷ words.Exists ∷ words.Version ∷ words.Unknown ∷ words.Functions ∷ words.Predicates ∷ words.Operators ∷ words.Implies ∷ words.Implied ∷ words.EndProblem ∷ words.EndOfList ∷ words.Description ∷ words.Satisfiable ∷ words.Quantifiers ∷ words.Translpairs ∷ words.Conjectures ∷ words.BeginProblem ∷ words.ListOfDescriptions ∷ words.ListOfSymbols ∷ words.ListOfClauses ∷ words.ListOfDeclarations ∷ words.ListOfFormulae ∷ words.ListOfProof ∷ words.ListOfSettings ∷ words.ListOfTerms ∷ words.ListOfSpecialFormulae ∷ words.ListOfIncludes ∷ words.Unsatisfiable ∷ []
-
 word_spelled : (w : Word) (text : List ℕ) → (spelling w ≡ [] → ⊥) → word_of text ≡ w → text ≡ spelling w
-unfolding word_of
 word_spelled w text some own =
-    let either : (word_of text ≡ words.Plain) ⊎ (spelling (word_of text) ≡ text) = first_spelled every_word text in
-    elim either [
+    elim (word_of-spelled text) [
       | inl plain ↦ absurd (some (ap spelling (sym own ∙ plain)))
       | inr is ↦ sym is ∙ ap spelling own
     ]
