@@ -13,7 +13,7 @@ use Rattle.spl_terms.specs.declared.clause.Clause.{Clause}
 use Rattle.spl_terms.specs.declared.clause.PushError.{PushError}
 use Rattle.spl_terms.specs.declared.clause.PushError.TheVariants.{Big, Memory}
 use Rattle.spl_terms.specs.Clauses.{is_same, part_of, with_atom, clause_symbols, FitsOrBig, IsEmpty}
-use Rattle.spl_terms.specs.SizeLaws.{with_atom-repeated, with_atom-new}
+use Rattle.spl_terms.specs.SizeLaws.{with_atom-grows}
 use Rattle.dfg_reader.specs.declared.formula.Formula.{Formula, Formula-F, out-Formula}
 use Rattle.dfg_reader.specs.declared.formula.Formula.TheOpen as layer
 use Rattle.dfg_reader.specs.declared.problem.Role.TheVariants as roles
@@ -93,13 +93,6 @@ pub no_atoms_yet : (c : Clause) → IsEmpty c → c ≡ no_literals
 no_atoms_yet c h = λ i. record { constraint = h.0 i; antecedent = h.1 i; succedent = h.2 i }
 
 -- ---- literals only make a clause larger
-
-with_atom-grows : (c : Clause) (part : Part) (a : Atom) → clause_symbols c ≤ clause_symbols (with_atom c part a)
-with_atom-grows c part a =
-    elim (cases_Bool (list_any (λ b. is_same a b) (part_of c part))) [
-      | inl e ↦ omega (arith, ap clause_symbols (with_atom-repeated c part a e))
-      | inr e ↦ omega (arith, with_atom-new c part a e)
-    ]
 
 with_negated-grows : (c : Clause) (l : Formula-F Formula) → clause_symbols c ≤ clause_symbols (with_negated c l)
 with_negated-grows c (layer.Atom a) = with_atom-grows c (negated_part a) a

@@ -8,7 +8,7 @@ use Rattle.spl_terms.specs.declared.clause.Part.TheVariants.{Constraint, Anteced
 use Rattle.spl_terms.specs.declared.clause.Clause.{Clause}
 use Rattle.spl_terms.specs.Clauses.{is_of_sort, is_same, added, part_of, with_atom, clause_symbols, distinct, at_lists, renumbered, in_order}
 use Rattle.spl_terms.specs.InOrderLaws.{distinct-different, different-distinct}
-use Rattle.spl_terms.specs.SizeLaws.{with_atom-repeated, with_atom-new}
+use Rattle.spl_terms.specs.SizeLaws.{with_atom-grows}
 use Rattle.normal_form.specs.Clausal.{Literal, stands_right, stands_left, stands_in_constraint, atoms_where, clause_from}
 use Rattle.normal_form.specs.Gathering.{part_for, with_signed_atom, nothing_gathered, gathered}
 
@@ -51,13 +51,7 @@ in_order-gathered ls = ap in_order (gathered_parts nothing_gathered ls) ∙ ap r
 
 -- ---- sizes
 
-atom_grows : (c : Clause) (part : Part) (a : Atom) → clause_symbols c ≤ clause_symbols (with_atom c part a)
-atom_grows c part a = elim (cases_Bool (list_any (λ b. is_same a b) (part_of c part))) [
-  | inl e ↦ (let h = ap clause_symbols (with_atom-repeated c part a e) in omega arith)
-  | inr e ↦ (let h = with_atom-new c part a e in omega arith)
-]
-
 -- a clause that is too large stays so
 pub gathered_grows : (c : Clause) (ls : List Literal) → clause_symbols c ≤ clause_symbols (gathered c ls)
 gathered_grows c [] = omega arith
-gathered_grows c (l ∷ ls) = let h = gathered_grows (with_signed_atom c l) ls in let k = atom_grows c (part_for l.sign l.atom) l.atom in omega arith
+gathered_grows c (l ∷ ls) = let h = gathered_grows (with_signed_atom c l) ls in let k = with_atom-grows c (part_for l.sign l.atom) l.atom in omega arith

@@ -1,6 +1,7 @@
 pub mod formers
 pub mod Lists
 pub mod ListLaws
+pub mod ChangeLaws
 pub mod Terms
 pub mod BoolLaws
 pub mod TermLaws

@@ -1,7 +1,8 @@
 -- Laws with their proofs, not definitions that a reader must believe: how many symbols and variables terms, atoms and clauses
 -- have, also where atoms are added or dropped and variables renumbered.
-use Rattle.std.proofs.Common.{◌≡◌, ℕ, ◌+◌, ◌≤◌, Bool, true, false, if◌then◌else◌, nat_eq, List, [], ◌∷◌, ◌++◌, length, map, sum, sum_by, fold, refl, sym, ap, ◌∙◌, arith, length-append}
+use Rattle.std.proofs.Common.{◌≡◌, inl, inr, ℕ, ◌+◌, ◌≤◌, Bool, true, false, if◌then◌else◌, nat_eq, List, [], ◌∷◌, ◌++◌, length, map, sum, sum_by, fold, refl, sym, ap, ◌∙◌, arith, length-append}
 use Rattle.std.specs.List.{list_any, flat_map}
+use Rattle.std.proofs.lemmas.Bool.{cases_Bool}
 use Rattle.std.proofs.lemmas.List.Sums.{sum_by-append, sum_by-cons, sum_by_push}
 use Rattle.spl_terms.specs.declared.term.Term.{Term, Var}
 use Rattle.spl_terms.specs.declared.atom.Atom.{Atom}
@@ -132,3 +133,9 @@ pub with_atom-new : (c : Clause) (part : Part) (a : Atom) → list_any (λ b. is
 with_atom-new c Constraint a e = omega (arith, symbols-three (added c.constraint a) c.antecedent c.succedent, symbols-three c.constraint c.antecedent c.succedent, symbols-added-new c.constraint a e)
 with_atom-new c Antecedent a e = omega (arith, symbols-three c.constraint (added c.antecedent a) c.succedent, symbols-three c.constraint c.antecedent c.succedent, symbols-added-new c.antecedent a e)
 with_atom-new c Succedent a e = omega (arith, symbols-three c.constraint c.antecedent (added c.succedent a), symbols-three c.constraint c.antecedent c.succedent, symbols-added-new c.succedent a e)
+
+pub with_atom-grows : (c : Clause) (part : Part) (a : Atom) → clause_symbols c ≤ clause_symbols (with_atom c part a)
+with_atom-grows c part a = elim (cases_Bool (list_any (λ b. is_same a b) (part_of c part))) [
+  | inl e ↦ omega (arith, ap clause_symbols (with_atom-repeated c part a e))
+  | inr e ↦ omega (arith, with_atom-new c part a e)
+]

@@ -2,7 +2,7 @@ use Rattle.std.proofs.Common.{arith}
 use Rattle.spl_terms.specs.declared.term.Term.{Var}
 use Rattle.spl_terms.specs.Terms.{replace}
 use Rattle.spl_terms.specs.Clauses.{place_in}
-use Rattle.spl_terms.proofs.ListLemmas.{changed_in_place}
+use Rattle.spl_terms.specs.ChangeLaws.{changed_in_place}
 use Rattle.spl_terms.proofs.number.+renumber.Goals as goal
 
 pub renumber_terms-loop-term-preserved : goal.renumber_terms-loop-term-preserved

@@ -1,7 +1,7 @@
 use Rattle.std.proofs.Common.{arith}
 use Rattle.spl_terms.specs.declared.term.Term.{Var}
 use Rattle.spl_terms.specs.Clauses.{place_in, replace_in_atom}
-use Rattle.spl_terms.proofs.ListLemmas.{changed_in_place}
+use Rattle.spl_terms.specs.ChangeLaws.{changed_in_place}
 use Rattle.spl_terms.proofs.number.renumber_atoms.Goals as goal
 
 pub loop-atom-preserved : goal.loop-atom-preserved
