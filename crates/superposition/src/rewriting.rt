@@ -22,6 +22,7 @@ ghost use Rattle.superposition.specs.Walks.{superpose_in, superpose_lent, superp
 ghost use Rattle.superposition.specs.Walks.{rewrite, rewrite_below, rewrite_argument};
 
 use crate::appending::append_from_both;
+use crate::building::paramodulant_of;
 use crate::equations::Equation;
 use crate::error::InferError;
 use crate::ordering::{Standing, standings};
@@ -30,10 +31,10 @@ use crate::premises::Premise;
 use crate::raising::raised;
 use crate::unifiers::restrictions;
 use crate::upper::{is_left_upper, is_upper_raised};
-use calculus::Kept;
-use proof_steps::{Line, Rule, paramodulated};
-use spl_terms::{Atom, Clause, Items, Part, Spot, Term};
-use spl_truth::{Subst, instance, laws};
+use calculus::{Kept, no_unifier_is_lost};
+use proof_steps::{Line, Rule};
+use spl_terms::{Atom, Items, Part, Spot, Term};
+use spl_truth::{Subst, laws};
 use std::alloc::{AllocError, Global};
 use unify::{Bindings, fits, unify_bound};
 
@@ -121,25 +122,6 @@ fn unifier_in_order(
     Ok(Some(both))
 }
 
-/// What superposition concludes by these substitutions, before it is put in order.
-fn superposed(
-    alloc: Global,
-    pair: Pair,
-    e: Equation,
-    spot: &Spot,
-    s: &Subst,
-    t: &Subst,
-) -> Result<Option<Clause>, AllocError>
-    requires { (has_entries s.now.terms (clause_of pair.p.now) && has_entries t.now.terms (clause_of pair.q.now)) ≡ true }
-    ensures { IfOk result (λ made. option_map in_order made ≡
-        paramodulation e.entry.place e.entry.right spot.now s.now.terms t.now.terms
-        (clause_of pair.entry.p.now) (clause_of pair.entry.q.now)) }
-{
-    let first = instance(alloc, s, &pair.p.statement.clause)?;
-    let second = instance(alloc, t, &pair.q.statement.clause)?;
-    paramodulated(alloc, e.place, e.right, spot, first, second)
-}
-
 /// Superposes the equation at this term, which stands at the end of the path, if they have a unifier that keeps
 /// the order.
 fn superpose(
@@ -155,17 +137,19 @@ fn superpose(
     requires upper { IsUpperAt r path.now }
     ensures { Appended (rewrite r.entry path.now) out.old.items out.new.items result }
 {
+    no_unifier_is_lost();
     let Some((s, t)) = unifier_in_order(alloc, r, path, term)? else {
         return Ok(());
     };
     let (pair, e, part, place) = (r.pair, r.equation, r.part, r.place);
+    let (p, q) = (&pair.p.statement.clause, &pair.q.statement.clause);
     let held = Items::from_slice(alloc, path)?;
     let spot = Spot {
         part,
         place,
         path: held,
     };
-    let made = superposed(alloc, pair, e, &spot, &s, &t)?;
+    let made = paramodulant_of(alloc, e.place, &spot, e.right_side, (p, &s), (q, &t))?;
     let rule = Rule::Paramodulate {
         i: e.place,
         right_to_left: e.right,
@@ -173,7 +157,7 @@ fn superpose(
         s,
         t,
     };
-    append_from_both(alloc, pair.p, pair.q, made, rule, out)
+    append_from_both(alloc, pair.p, pair.q, Some(made), rule, out)
 }
 
 // ---- the walk through an atom
