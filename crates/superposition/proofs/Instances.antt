@@ -3,24 +3,16 @@ use Rattle.std.proofs.Common.{◌≡◌, ℕ, zero, suc, ◌+◌, ◌-◌, ◌<�
 use Rattle.std.specs.Prelude.{slice_get, is_some}
 use Rattle.std.proofs.lemmas.Bool.{false≢true}
 use Rattle.std.proofs.Math.Seq.{take-length}
-use Rattle.spl_terms.specs.declared.term.Symbol.{Symbol}
-use Rattle.spl_terms.specs.declared.term.Term.{Term, Var, App}
+use Rattle.spl_terms.specs.declared.term.Term.{Term, Var}
 use Rattle.spl_terms.specs.declared.term.Term.TheViews.{outs-Var, outs-App}
 use Rattle.spl_terms.specs.declared.atom.Atom.{Atom}
 use Rattle.spl_terms.specs.declared.atom.Atom.TheVariants.{Holds, Equal}
-use Rattle.spl_terms.specs.Terms.{replace}
 use Rattle.spl_terms.specs.Clauses.{replace_in_atom}
 use Rattle.spl_terms.specs.TermLaws.{term_induction, replace-Var, replace-App}
-use Rattle.proof_steps.specs.Spots.{changed_at, arguments_step, with_arguments_step, subterm, with_subterm, term_under}
+use Rattle.proof_steps.specs.Spots.{changed_at, arguments_step, subterm, term_under}
 use Rattle.superposition.specs.Pairs.{raised}
 
 -- ---- where a path leads
-
-pub variable_ends : (k : ℕ) (path : List ℕ) (t : Term) (v : ℕ) → t ≡ Var v → is_some (subterm (k ∷ path) t) ≡ true → ⊥
-variable_ends k path t v is there = false≢true (sym (ap (λ x. is_some (subterm (k ∷ path) x)) is ∙ ap (λ ts. is_some (option_and_then (subterm path) (slice_get ts k))) (ap arguments_step (outs-Var v))) ∙ there)
-
-pub goes_on : (k : ℕ) (path : List ℕ) (t : Term) (f : Symbol) (ts : List Term) → t ≡ App f ts → is_some (subterm (k ∷ path) t) ≡ true → is_some (option_and_then (subterm path) (slice_get ts k)) ≡ true
-goes_on k path t f ts is there = sym (ap (λ x. is_some (subterm (k ∷ path) x)) is ∙ ap (λ xs. is_some (option_and_then (subterm path) (slice_get xs k))) (ap arguments_step (outs-App f ts))) ∙ there
 
 pub place_within : {A B : Type 0} (f : A → Option B) (xs : List A) (k : ℕ) → is_some (option_and_then f (slice_get xs k)) ≡ true → k < length xs
 place_within f [] k h = absurd (false≢true h)
@@ -43,11 +35,6 @@ changed_instances zero f g (y ∷ xs) x h e = ap (λ z. f (g z) ∷ map g xs) e
 changed_instances (suc k) f g (y ∷ xs) x h e =
     let next : suc k + 1 ≡ suc (k + 1) = omega arith in
     ap (λ n. g y ∷ (map g (take k xs) ++ f (g x) ∷ map g (drop n (y ∷ xs)))) next ∙ ap (λ l. g y ∷ l) (changed_instances k f g xs x (omega (arith, h)) e)
-
-pub with_application : (k : ℕ) (path : List ℕ) (new : Term) (h : ℕ → Term) (t : Term) (f : Symbol) (ts made : List Term) → t ≡ App f ts → made ≡ changed_at k (with_subterm path new) (map (replace h) ts) → App f made ≡ with_subterm (k ∷ path) new (replace h t)
-with_application k path new h t f ts made is e =
-    ap (App f) e
-    ∙ sym (ap (with_subterm (k ∷ path) new) (ap (replace h) is ∙ replace-App h f ts) ∙ ap (with_arguments_step (changed_at k (with_subterm path new))) (outs-App f (map (replace h) ts)))
 
 -- ---- a path in a raised atom is one in the atom
 

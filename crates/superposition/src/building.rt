@@ -120,7 +120,8 @@ fn resolved_part(
     requires j { literals.j < length (part_of q.0.now literals.part) }
     ensures { IfOk result (λ made. made ≡
         map (replace_in_atom (entry p.entry.1.now.terms)) (part_of (without Succedent literals.i p.entry.0.now) of)
-        ++ map (replace_in_atom (entry q.entry.1.now.terms)) (part_of (without literals.part literals.j q.entry.0.now) of)) }
+        ++ map (replace_in_atom (entry q.entry.1.now.terms))
+        (part_of (without literals.part literals.j q.entry.0.now) of)) }
 {
     let Literals { i, part, j } = literals;
     let (clause, s) = p;
@@ -182,7 +183,8 @@ fn rewritten_part(
     q: (&Clause, &Subst),
 ) -> Result<Items<Atom>, AllocError>
     requires i { i < length p.0.now.succedent }
-    requires spot { is_some (option_and_then (term_under spot.now.path) (atom_at spot.now.part spot.now.place q.0.now)) ≡ true }
+    requires spot { is_some (option_and_then (term_under spot.now.path)
+        (atom_at spot.now.part spot.now.place q.0.now)) ≡ true }
     ensures { IfOk result (λ made. made ≡
         map (replace_in_atom (entry p.entry.1.now.terms)) (part_of (without Succedent i p.entry.0.now) spot.now.part)
         ++ changed_at spot.now.place (with_term_under spot.now.path new)
@@ -211,7 +213,8 @@ pub(crate) fn paramodulant_of(
     q: (&Clause, &Subst),
 ) -> Result<Clause, AllocError>
     requires i { i < length p.0.now.succedent }
-    requires spot { is_some (option_and_then (term_under spot.now.path) (atom_at spot.now.part spot.now.place q.0.now)) ≡ true }
+    requires spot { is_some (option_and_then (term_under spot.now.path)
+        (atom_at spot.now.part spot.now.place q.0.now)) ≡ true }
     ensures { IfOk result (λ made. made ≡ joined
         (apply p.entry.1.now.terms (without Succedent i p.entry.0.now))
         (with_term_at spot.now (replace (entry p.entry.1.now.terms) by.now)

@@ -112,7 +112,8 @@ pub(crate) fn add_with(
 ) -> Result<(), AllocError>
     requires { is_some (option_and_then (term_under spot.now.path) (slice_get atoms.now spot.now.place)) ≡ true }
     ensures { OnOk result (made.new ≡ made.old
-        ++ changed_at spot.now.place (with_term_under spot.now.path new) (map (replace_in_atom (entry entries.now)) atoms.now)) }
+        ++ changed_at spot.now.place (with_term_under spot.now.path new)
+        (map (replace_in_atom (entry entries.now)) atoms.now)) }
 {
     let k = spot.place as usize;
     let (before, behind) = (&atoms[..k], &atoms[k + 1..]);

@@ -1,17 +1,17 @@
 //! Superposition: an equation of one premise at the subterms of another.
-ghost use Rattle.std.specs.Prelude.{◌≡◌, ℕ, List, ◌≤◌, ◌&&◌, ◌∷◌, ◌++◌, [], map, Some, true, option_map, slice_get, IfOk, OnOk};
+ghost use Rattle.std.specs.Prelude.{◌≡◌, ℕ, List, ◌≤◌, ◌∷◌, ◌++◌, [], map, Some, slice_get, IfOk, OnOk};
 ghost use Rattle.std.specs.List.{flat_map, enumerate_from};
 ghost use Rattle.spl_terms.specs.declared.term.Term.{Term};
 ghost use Rattle.spl_terms.specs.declared.atom.Atom.TheVariants.{Equal};
 ghost use Rattle.spl_terms.specs.declared.clause.Part.TheVariants.{Antecedent, Succedent};
-ghost use Rattle.spl_terms.specs.Clauses.{clause_symbols, in_order};
+ghost use Rattle.spl_terms.specs.Clauses.{clause_symbols};
 ghost use Rattle.spl_terms.specs.InOrder.{IsInOrder};
 ghost use Rattle.spl_truth.specs.Unifiers.{HasVariablesBelow, HaveVariablesBelow};
 ghost use Rattle.proof_steps.specs.Spots.{term_under};
-ghost use Rattle.proof_steps.specs.Steps.{has_entries, paramodulation};
 ghost use Rattle.spl_truth.specs.Truth.{entry};
 ghost use Rattle.unify.specs.Bindings.{substitution, IsTriangular};
-ghost use Rattle.calculus.specs.Inferences.{clause_of, renamed_apart, is_upper_side, rewriting_unifier, paths_in, superpositions};
+ghost use Rattle.calculus.specs.Inferences.{clause_of, renamed_apart, is_upper_side, rewriting_unifier};
+ghost use Rattle.calculus.specs.Inferences.{paths_in, superpositions};
 ghost use Rattle.superposition.specs.Appending.{Appended};
 ghost use Rattle.superposition.specs.Words.{AreInPlace};
 ghost use Rattle.superposition.specs.Pairs.{IsPair, AreRestrictions, raised};
@@ -94,7 +94,8 @@ fn unifier_in_order(
     term: &Term,
 ) -> Result<Option<(Subst, Subst)>, AllocError>
     requires ready { IsReady r }
-    requires stands { term_under path.now (renamed_apart r.pair.p.now r.atom.now) ≡ Some (raised r.pair.first term.now) }
+    requires stands { term_under path.now (renamed_apart r.pair.p.now r.atom.now)
+        ≡ Some (raised r.pair.first term.now) }
     requires below { HasVariablesBelow r.pair.both (raised r.pair.first term.now) }
     requires upper { IsUpperAt r path.now }
     ensures { IfOk result (AreRestrictions r.entry.pair.first
@@ -132,7 +133,8 @@ fn superpose(
     out: &mut Vec<Line>,
 ) -> Result<(), InferError>
     requires ready { IsReady r }
-    requires stands { term_under path.now (renamed_apart r.pair.p.now r.atom.now) ≡ Some (raised r.pair.first term.now) }
+    requires stands { term_under path.now (renamed_apart r.pair.p.now r.atom.now)
+        ≡ Some (raised r.pair.first term.now) }
     requires below { HasVariablesBelow r.pair.both (raised r.pair.first term.now) }
     requires upper { IsUpperAt r path.now }
     ensures { Appended (rewrite r.entry path.now) out.old.items out.new.items result }
@@ -180,7 +182,8 @@ fn superpose_in_term(
     out: &mut Vec<Line>,
 ) -> Result<(), InferError>
     requires ready { IsReady r }
-    requires stands { term_under path.old.items (renamed_apart r.pair.p.now r.atom.now) ≡ Some (raised r.pair.first term.now) }
+    requires stands { term_under path.old.items (renamed_apart r.pair.p.now r.atom.now)
+        ≡ Some (raised r.pair.first term.now) }
     requires below { HasVariablesBelow r.pair.both (raised r.pair.first term.now) }
     requires upper { IsUpperAt r path.old.items }
     ensures appended { Appended
