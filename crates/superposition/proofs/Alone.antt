@@ -87,9 +87,6 @@ module _ (p : Kept) (e d : Reading) (vars : ℕ) (n : vars ≡ variables (clause
       ∙ sym (ap (by_unifier p (EqFactor e.place e.right d.place d.right)) (known (Some s.terms) unified))
       ∙ sym (ap (λ t. if not t then factor_equation p e d else []) (ne_eqb d.place e.place (λ e. apart (sym e))))
 
-  pub no_equation_line : factoring_unifier vars e d ≡ None → [] ≡ factor_apart p e d
-  no_equation_line none = none_either_way (not (d.place == e.place)) (factor_equation p e d) (ap (by_unifier p (EqFactor e.place e.right d.place d.right)) (known None none))
-
 -- ---- variables
 
 part_below : (p : Kept) → IsInOrder (clause_of p) → (part : Part) → AreAtomsBelow (variables (clause_of p)) (enumerate_from 0 (part_of (clause_of p) part))

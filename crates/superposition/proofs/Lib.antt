@@ -8,3 +8,4 @@ pub mod Compared
 pub mod Alone
 pub mod Walked
 pub mod Skipped
+pub mod Instances

@@ -1,5 +1,5 @@
 -- Lists whose elements are taken one by one.
-use Rattle.std.proofs.Common.{◌≡◌, ℕ, zero, suc, ◌+◌, ◌<◌, Bool, true, false, if◌then◌else◌, List, [], ◌∷◌, ◌++◌, length, map, drop, get_or, Some, refl, sym, ap, ◌∙◌, subst, arith, append_assoc}
+use Rattle.std.proofs.Common.{◌≡◌, ℕ, zero, suc, ◌+◌, ◌<◌, Bool, true, false, if◌then◌else◌, List, [], ◌∷◌, ◌++◌, length, drop, get_or, Some, refl, sym, ap, ◌∙◌, subst, arith, append_assoc}
 use Rattle.std.specs.Prelude.{filter, slice_get}
 use Rattle.std.specs.List.{AllByRecursion, enumerate_from}
 
@@ -45,10 +45,6 @@ each_kept P f (x ∷ xs) h = by_test (f x) (each_kept P f xs h.1)
 pub each_numbered : {X : Type 0} (P : X → Type 0) (n : ℕ) (xs : List X) → ((k : ℕ) (x : X) → slice_get xs k ≡ Some x → P x) → AllByRecursion (λ x. P x.1) (enumerate_from n xs)
 each_numbered P n [] h = tt
 each_numbered P n (x ∷ xs) h = (h 0 x refl, each_numbered P (n + 1) xs (λ k y e. h (suc k) y e))
-
-pub each_mapped : {X Y : Type 0} (P : X → Type 0) (Q : Y → Type 0) (f : X → Y) (xs : List X) → ((x : X) → P x → Q (f x)) → AllByRecursion P xs → AllByRecursion Q (map f xs)
-each_mapped P Q f [] g h = tt
-each_mapped P Q f (x ∷ xs) g h = (g x h.0, each_mapped P Q f xs g h.1)
 
 pub each_placed : {X : Type 0} (P : ℕ × X → Type 0) (n : ℕ) (xs : List X) → ((k : ℕ) (x : X) → slice_get xs k ≡ Some x → P (n + k, x)) → AllByRecursion P (enumerate_from n xs)
 each_placed P n [] h = tt

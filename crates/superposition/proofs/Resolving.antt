@@ -1,5 +1,5 @@
 -- Facts about resolution.
-use Rattle.std.proofs.Common.{◌≡◌, ℕ, ◌+◌, ◌<◌, arith, true, ◌&&◌, if◌then◌else◌, List, [], ◌∷◌, length, take, drop, Option, Some, None, option_map, sym, ap, ◌∙◌, subst, map, Bool, false, refl}
+use Rattle.std.proofs.Common.{◌≡◌, ℕ, ◌+◌, ◌<◌, arith, true, ◌&&◌, if◌then◌else◌, List, [], ◌∷◌, take, drop, Option, Some, None, option_map, sym, ap, ◌∙◌, subst, map, Bool, false, refl}
 use Rattle.std.specs.Prelude.{option_to_list, slice_get}
 use Rattle.std.specs.Borrow.{Bor}
 use Rattle.std.specs.List.{AllByRecursion, flat_map, enumerate_from}
@@ -25,21 +25,12 @@ use Rattle.proof_steps.specs.Steps.{is_negative, both_same, without, joined, may
 use Rattle.calculus.specs.Found.{ResolventsAreFound}
 use Rattle.calculus.specs.declared.kept.Kept.{Kept}
 use Rattle.calculus.specs.Inferences.{clause_of, variables_of_both, first_part, second_part, by_entries, by_unifier_of_both, atom_unifier, eligible_in, renamed_apart, resolve, resolutions}
-use Rattle.calculus.specs.LiftingLaws.{first_fits, second_fits, atom_below, all_below, renamed_apart_below}
+use Rattle.calculus.specs.LiftingLaws.{atom_below, all_below, renamed_apart_below}
 use Rattle.superposition.specs.declared.pairs.Pair.{Pair}
 use Rattle.superposition.specs.Words.{plain, IsAtomBelow, AreInPlace, AreLentBelow, line_of_both}
 use Rattle.superposition.specs.Pairs.{IsPair}
 use Rattle.superposition.proofs.Stating.{stated_line, both_line}
 use Rattle.superposition.proofs.Lists.{each_kept, each_placed}
-
--- ---- the two parts of a unifier
-
-pub parts_fit : (p q : Kept) (first both : ℕ) (u s t : List Term) → first ≡ variables (clause_of p) → both ≡ variables_of_both p q → length u ≡ both → s ≡ take first u → t ≡ drop first u → (has_entries s (clause_of p) && has_entries t (clause_of q)) ≡ true
-parts_fit p q first both u s t n m long is other =
-    let exact : length u ≡ variables_of_both p q = long ∙ m in
-    let left : has_entries s (clause_of p) ≡ true = ap (λ x. has_entries x (clause_of p)) (is ∙ ap (λ k. take k u) n) ∙ first_fits p q u exact in
-    let right : has_entries t (clause_of q) ≡ true = ap (λ x. has_entries x (clause_of q)) (other ∙ ap (λ k. drop k u) n) ∙ second_fits p q u exact in
-    λ k. left k && right k
 
 -- ---- instances without an atom
 

@@ -87,10 +87,6 @@ module _ (r : Rewriting) (side : ℕ) (term : Term) (there : atom_at r.part r.pl
 
 -- ---- which side is upper
 
-pub second_side : (u : List Term) (s t : Term) (side : ℕ) (path : List ℕ) → (side ≡ 0 → ⊥) → is_not_below u t s ≡ is_upper_side u (Equal s t) (side ∷ path)
-second_side u s t zero path h = absurd (h refl)
-second_side u s t (suc k) path h = refl
-
 -- a longer path lies in the same side
 pub upper_deeper : (a : Atom) (path : List ℕ) (k : ℕ) → ((u : List Term) → is_upper_side u a path ≡ true) → (u : List Term) → is_upper_side u a (path ++ k ∷ []) ≡ true
 upper_deeper (Holds f ts) path k h u = refl

@@ -1,6 +1,6 @@
 -- Facts about superposition on its way through an atom.
-use Rattle.std.proofs.Common.{◌≡◌, ℕ, zero, suc, ◌+◌, ◌<◌, ◌≤◌, Bool, true, false, ◌&&◌, All, List, [], ◌∷◌, ◌++◌, length, map, take, drop, get_or, Option, Some, None, option_map, option_and_then, refl, sym, ap, ◌∙◌, subst, arith, append_assoc, append-nil}
-use Rattle.std.specs.Prelude.{option_to_list, slice_get, sum, unwrap_or, Result, Ok}
+use Rattle.std.proofs.Common.{◌≡◌, ℕ, zero, suc, ◌+◌, ◌<◌, ◌≤◌, Bool, true, false, ◌&&◌, All, List, [], ◌∷◌, ◌++◌, length, map, take, drop, get_or, Option, Some, None, option_map, option_and_then, refl, sym, ap, ◌∙◌, subst, arith, append_assoc, append-nil, if◌then◌else◌}
+use Rattle.std.specs.Prelude.{option_to_list, slice_get, sum, unwrap_or, Result, Ok, is_some}
 use Rattle.std.specs.Borrow.{Bor}
 use Rattle.std.specs.List.{AllByRecursion, flat_map, enumerate_from}
 use Rattle.std.proofs.lemmas.Grind.{flat_map-append}
@@ -8,7 +8,7 @@ use Rattle.std.proofs.lemmas.List.Elements.{All-from_recursion, recursion_from_A
 use Rattle.std.proofs.lemmas.List.Folds.{flat_map-map}
 use Rattle.std.proofs.lemmas.List.FromFn.{length-enumerate_from, get_or-enumerate_from}
 use Rattle.std.proofs.lemmas.List.Sums.{sum_by-cons}
-use Rattle.std.proofs.lemmas.Option.{slice_get-get_or, slice_get-map}
+use Rattle.std.proofs.lemmas.Option.{slice_get-get_or, slice_get-map, slice_get_within}
 use Rattle.spl_terms.specs.declared.term.Symbol.{Symbol}
 use Rattle.spl_terms.specs.declared.term.Term.{Term, Var, App}
 use Rattle.spl_terms.specs.declared.term.Term.TheViews.{outs-App}
@@ -18,8 +18,8 @@ use Rattle.spl_terms.specs.declared.clause.Part.{Part}
 use Rattle.spl_terms.specs.declared.clause.Part.TheVariants.{Antecedent, Succedent}
 use Rattle.spl_terms.specs.declared.clause.Spot.{Spot}
 use Rattle.spl_terms.specs.declared.clause.Clause.{Clause}
-use Rattle.spl_terms.specs.Terms.{term_variables, term_symbols}
-use Rattle.spl_terms.specs.Clauses.{in_order, atom_terms}
+use Rattle.spl_terms.specs.Terms.{term_variables, term_symbols, term_eq, replace}
+use Rattle.spl_terms.specs.Clauses.{in_order, atom_terms, replace_in_atom}
 use Rattle.spl_terms.specs.InOrder.{variables}
 use Rattle.spl_terms.specs.TermLaws.{fold-Var, fold-App, replace-App, term_variables-App}
 use Rattle.spl_truth.specs.declared.replace.Subst.{Subst}
@@ -28,11 +28,10 @@ use Rattle.spl_truth.specs.Orders.{is_not_below}
 use Rattle.dep_sets.specs.Assumptions.{united}
 use Rattle.proof_steps.specs.declared.step.Rule.TheVariants.{Paramodulate}
 use Rattle.proof_steps.specs.declared.step.Line.{Line}
-use Rattle.proof_steps.specs.Spots.{arguments_step, arguments_of, subterm, term_under, atom_at}
-use Rattle.proof_steps.specs.Steps.{when, states, sides_of, paramodulation}
+use Rattle.proof_steps.specs.Spots.{arguments_step, arguments_of, subterm, term_under, atom_at, with_term_at}
+use Rattle.proof_steps.specs.Steps.{when, states, sides_of, paramodulation, has_entries, joined, without, rewritten}
 use Rattle.calculus.specs.declared.kept.Kept.{Kept}
 use Rattle.calculus.specs.Inferences.{Reading, clause_of, variables_of_both, first_part, second_part, by_entries, by_unifier_of_both, renamed_apart, eligible_in, readings, equations_of, paths_step, paths_in, paths_of, spots_in, spots_of, is_upper_side, rewriting_unifier, superpose, superpositions}
-use Rattle.calculus.specs.LiftingLaws.{length-unifier}
 use Rattle.superposition.specs.declared.equations.Equation.{Equation}
 use Rattle.superposition.specs.declared.pairs.Pair.{Pair}
 use Rattle.superposition.specs.declared.rewriting.Rewriting.{Rewriting}
@@ -45,8 +44,12 @@ use Rattle.superposition.specs.Readings.{reading_of, AreJudged}
 use Rattle.superposition.specs.Standings.{IsStanding}
 use Rattle.superposition.specs.Walks.{AreUsable, IsReady, IsUpperAt, IsSide, raised_atom, superpose_in, superpose_lent, superpose_in_parts, rewrite, rewrite_below, rewrite_argument}
 use Rattle.superposition.proofs.Stating.{stated_line, both_line}
-use Rattle.superposition.proofs.Resolving.{first_below, second_below, eligible_there}
-use Rattle.superposition.proofs.Alone.{kept_length, left_below, right_below}
+use Rattle.superposition.proofs.Resolving.{first_below, second_below, eligible_there, apply-without}
+use Rattle.superposition.proofs.Alone.{left_below, right_below}
+use Rattle.superposition.proofs.Instances.{leads_under}
+use Rattle.proof_steps.specs.declared.step.Statement.{Statement}
+use Rattle.spl_truth.specs.Truth.{entry, apply}
+use Rattle.calculus.specs.Found.{ParamodulantsAreFound}
 use Rattle.superposition.proofs.Skipped.{lower_raised, upper_raised}
 
 -- ---- at one place
@@ -75,6 +78,75 @@ module _ (r : Rewriting) (ready : IsReady r) (path : List ℕ) where
   pub no_superposed_line : rewriting_unifier r.pair.both e (raised_atom r) path ≡ None → [] ≡ rewrite r path
   no_superposed_line none = sym (whole None none)
 
+  -- what stands in a list before it is looked at
+  there_of : {A B : Type 0} (f : A → Option B) (o : Option A) (y : B) → option_and_then f o ≡ Some y → (x : A) × (o ≡ Some x) × (f x ≡ Some y)
+  there_of f None y h = absurd (cc)
+  there_of f (Some x) y h = (x, refl, h)
+
+  sides_replaced : (h : ℕ → Term) (right : Bool) (a : Atom) → sides_of right (replace_in_atom h a) ≡ option_map (λ both. (replace h both.0, replace h both.1)) (sides_of right a)
+  sides_replaced h right (Holds f ts) = refl
+  sides_replaced h false (Equal x y) = refl
+  sides_replaced h true (Equal x y) = refl
+
+  -- the unifier that keeps the order is that of the left side and the term that stands there
+  unifier_there : (vars : ℕ) (w : Term) (u : List Term) → term_under path (raised_atom r) ≡ Some w → rewriting_unifier vars e (raised_atom r) path ≡ Some u → unifier vars e.left_side w ≡ Some u
+  unifier_there vars w u stands unified = kept_same (unifier vars e.left_side w) (sym (ap (λ o. option_and_then (λ u. when (test u) u) (option_and_then (unifier vars e.left_side) o)) stands) ∙ unified)
+    where
+      test : List Term → Bool
+      test u = is_not_below u e.left_side e.right_side && is_upper_side u (raised_atom r) path
+
+      by_test : (b : Bool) (x : List Term) → when b x ≡ Some u → Some x ≡ Some u
+      by_test true x h = h
+      by_test false x h = absurd (cc)
+
+      kept_same : (o : Option (List Term)) → option_and_then (λ u. when (test u) u) o ≡ Some u → o ≡ Some u
+      kept_same None h = h
+      kept_same (Some x) h = by_test (test x) x h
+
+  -- what is stated is what is concluded where the terms are the same
+  one_of : {A B : Type 0} (f : A → B) (g : Clause → A) (c : Clause) (fit : Bool) (same : Term → Bool) (o : Option Term) (l : B) → option_to_list (option_map f (option_map g (if fit then option_and_then (λ x. when (same x) c) o else None))) ≡ l ∷ [] → (if fit then option_and_then (λ x. when (same x) c) o else None) ≡ Some c
+  one_of f g c false same o l h = absurd (cc)
+  one_of f g c true same None l h = absurd (cc)
+  one_of f g c true same (Some x) l h = by_test (same x) h
+    where
+      by_test : (b : Bool) → option_to_list (option_map f (option_map g (when b c))) ≡ l ∷ [] → when b c ≡ Some c
+      by_test true h = refl
+      by_test false h = absurd (cc)
+
+  pub paramodulation_is : ParamodulantsAreFound → (w : Term) → term_under path (raised_atom r) ≡ Some w → (u : List Term) (s t : Subst) (held : List ℕ) (made : Clause) → rewriting_unifier r.pair.both e (raised_atom r) path ≡ Some u → s.terms ≡ take r.pair.first u → t.terms ≡ drop r.pair.first u → held ≡ path →
+      made ≡ joined (apply s.terms (without Succedent e.place (clause_of p))) (with_term_at (spot_at r.part r.place held) (replace (entry s.terms) e.right_side) (apply t.terms (clause_of q))) →
+      option_map in_order (Some made) ≡ paramodulation e.place e.right (spot_at r.part r.place held) s.terms t.terms (clause_of p) (clause_of q)
+  paramodulation_is law w stands u s t held made unified is other same built =
+      let left : s ≡ first_part p u = ap by_entries (is ∙ ap (λ k. take k u) ready.pair.first) in
+      let right : t ≡ second_part p u = ap by_entries (other ∙ ap (λ k. drop k u) ready.pair.first) in
+      let first : List Term = (first_part p u).terms in
+      let second : List Term = (second_part p u).terms in
+      let x : Clause = apply first (clause_of p) in
+      let y : Clause = apply second (clause_of q) in
+      let spot : Spot = spot_at r.part r.place path in
+      let there = there_of (sides_of e.right) (slice_get (clause_of p).succedent e.place) (e.left_side, e.right_side) ready.equation.stands in
+      let whole_unifier : rewriting_unifier (variables_of_both p q) e (raised_atom r) path ≡ Some u = ap (λ k. rewriting_unifier k e (raised_atom r) path) (sym ready.pair.both) ∙ unified in
+      let line = law p q ready.pair.p_in_order ready.pair.q_in_order e spot there.0 r.atom.now w u there.1 there.2 ready.atom stands (unifier_there (variables_of_both p q) w u stands whole_unifier) whole_unifier in
+      let l : Term = replace (entry first) e.left_side in
+      let new : Term = replace (entry first) e.right_side in
+      let c : Clause = in_order (joined (without Succedent e.place x) (with_term_at spot new y)) in
+      let fit : Bool = has_entries first (clause_of p) && has_entries second (clause_of q) in
+      let o : Option Term = option_and_then (term_under path) (atom_at r.part r.place y) in
+      let sides : option_and_then (sides_of e.right) (slice_get x.succedent e.place) ≡ Some (l, new) =
+      ap (option_and_then (sides_of e.right)) (slice_get-map (replace_in_atom (entry first)) (clause_of p).succedent e.place ∙ ap (option_map (replace_in_atom (entry first))) there.1)
+      ∙ sides_replaced (entry first) e.right there.0
+      ∙ ap (option_map (λ both. (replace (entry first) both.0, replace (entry first) both.1))) there.2 in
+      let form : paramodulation e.place e.right spot first second (clause_of p) (clause_of q) ≡ (if fit then option_and_then (λ z. when (term_eq z l) c) o else None) = ap (λ z. if fit then option_and_then (rewritten e.place spot x y) z else None) sides in
+      let stated : Statement → Line = stated_line (Paramodulate e.place e.right spot (first_part p u) (second_part p u)) (p.number ∷ q.number ∷ []) in
+      let deps = united p.statement.deps q.statement.deps in
+      let found = sym (ap (λ z. option_to_list (option_map stated (option_map (λ c. states c deps) z))) form) ∙ sym (whole (Some u) unified) ∙ line.1 in
+      let all : paramodulation e.place e.right spot first second (clause_of p) (clause_of q) ≡ Some c = form ∙ one_of stated (λ c. states c deps) c fit (λ z. term_eq z l) o line.0 found in
+      ap (λ d. Some (in_order d)) (built
+      ∙ (λ k. joined (apply (left k).terms (without Succedent e.place (clause_of p))) (with_term_at (spot_at r.part r.place (same k)) (replace (entry (left k).terms) e.right_side) (apply (right k).terms (clause_of q))))
+      ∙ ap (λ d. joined d (with_term_at spot new y)) (apply-without Succedent e.place first (clause_of p)))
+      ∙ sym all
+      ∙ (λ k. paramodulation e.place e.right (spot_at r.part r.place (sym same k)) (sym left k).terms (sym right k).terms (clause_of p) (clause_of q))
+
   pub superposed_line : (u : List Term) (s t : Subst) (held : List ℕ) (made : Option Clause) → rewriting_unifier r.pair.both e (raised_atom r) path ≡ Some u → s.terms ≡ take r.pair.first u → t.terms ≡ drop r.pair.first u → held ≡ path →
       option_map in_order made ≡ paramodulation e.place e.right (spot_at r.part r.place held) s.terms t.terms (clause_of p) (clause_of q) →
       option_to_list (option_map (line_of_both p q (Paramodulate e.place e.right (spot_at r.part r.place held) s t)) made) ≡ rewrite r path
@@ -86,13 +158,21 @@ module _ (r : Rewriting) (ready : IsReady r) (path : List ℕ) where
       ∙ (λ k. option_to_list (option_map (stated_line (Paramodulate e.place e.right (spot_at r.part r.place (same k)) (left k) (right k)) (p.number ∷ q.number ∷ [])) (option_map (λ c. states c deps) (paramodulation e.place e.right (spot_at r.part r.place (same k)) (left k).terms (right k).terms (clause_of p) (clause_of q)))))
       ∙ sym (whole (Some u) unified)
 
--- how many entries a unifier that keeps the order has
-pub length-rewriting_unifier : (vars : ℕ) (e : Reading) (b : Atom) (path : List ℕ) (u : List Term) → rewriting_unifier vars e b path ≡ Some u → length u ≡ vars
-length-rewriting_unifier vars e b path u unified = kept_length vars (λ u. is_not_below u e.left_side e.right_side && is_upper_side u b path) (option_and_then (unifier vars e.left_side) (term_under path b)) u (λ w. by_term w (term_under path b)) unified
+-- the equation is one of the succedent
+pub equation_within : (r : Rewriting) → IsReady r → r.equation.place < length (clause_of r.pair.p.now).succedent
+equation_within r ready = by_atom (slice_get (clause_of r.pair.p.now).succedent r.equation.place) refl ready.equation.stands
   where
-    by_term : (w : List Term) (o : Option Term) → option_and_then (unifier vars e.left_side) o ≡ Some w → length w ≡ vars
-    by_term w None h = absurd (cc)
-    by_term w (Some t) h = length-unifier vars e.left_side t w h
+    by_atom : (o : Option Atom) → slice_get (clause_of r.pair.p.now).succedent r.equation.place ≡ o → option_and_then (sides_of r.equation.right) o ≡ Some (r.equation.left_side.now, r.equation.right_side.now) → r.equation.place < length (clause_of r.pair.p.now).succedent
+    by_atom None there h = absurd (cc)
+    by_atom (Some a) there h = slice_get_within (clause_of r.pair.p.now).succedent r.equation.place a there
+
+-- and the path leads to a subterm of the atom as it stands
+pub spot_there : (r : Rewriting) → IsReady r → (path held : List ℕ) (w : Term) → held ≡ path → term_under path (raised_atom r) ≡ Some w → is_some (option_and_then (term_under held) (atom_at r.part r.place (clause_of r.pair.q.now))) ≡ true
+spot_there r ready path held w same stands =
+    ap (λ o. is_some (option_and_then (term_under held) o)) ready.atom
+    ∙ ap (λ l. is_some (term_under l r.atom.now)) same
+    ∙ sym (leads_under (variables (clause_of r.pair.p.now)) path r.atom.now)
+    ∙ ap is_some stands
 
 -- the unifier by that of the left side and the term that stands there
 pub rewriting_of : (vars : ℕ) (e : Reading) (b : Atom) (path : List ℕ) (w : Term) → term_under path b ≡ Some w → rewriting_unifier vars e b path ≡ option_and_then (λ u. when (is_not_below u e.left_side e.right_side && is_upper_side u b path) u) (unifier vars e.left_side w)

@@ -1,12 +1,14 @@
 //! Conclusions from instances of two premises, each atom copied once and each list with no room to spare.
-ghost use Rattle.std.specs.Prelude.{◌≡◌, ◌++◌, ◌<◌, map, length, remove, IfOk, OnOk};
+ghost use Rattle.std.specs.Prelude.{◌≡◌, ◌++◌, ◌<◌, map, length, remove, is_some, option_and_then, true, IfOk, OnOk};
 ghost use Rattle.spl_terms.specs.Terms.{replace};
 ghost use Rattle.spl_terms.specs.Clauses.{replace_in_atom, part_of};
 ghost use Rattle.spl_terms.specs.declared.clause.Part.TheVariants.{Succedent};
 ghost use Rattle.spl_truth.specs.Truth.{entry, apply};
+ghost use Rattle.proof_steps.specs.Spots.{changed_at, term_under, with_term_under, atom_at, with_term_at};
 ghost use Rattle.proof_steps.specs.Steps.{without, joined};
 
-use spl_terms::{Atom, Clause, Items, Part, Term};
+use crate::placing::add_with;
+use spl_terms::{Atom, Clause, Items, Part, Spot, Term};
 use spl_truth::{Subst, replaced};
 use std::alloc::{AllocError, Global};
 
@@ -38,7 +40,7 @@ fn instance_of(alloc: Global, entries: &[Term], atom: &Atom) -> Result<Atom, All
 }
 
 /// Adds the instances of the atoms at the end.
-fn add_instances(
+pub(crate) fn add_instances(
     alloc: Global,
     entries: &[Term],
     atoms: &[Atom],
@@ -118,7 +120,8 @@ fn resolved_part(
     requires j { literals.j < length (part_of q.0.now literals.part) }
     ensures { IfOk result (λ made. made ≡
         map (replace_in_atom (entry p.entry.1.now.terms)) (part_of (without Succedent literals.i p.entry.0.now) of)
-        ++ map (replace_in_atom (entry q.entry.1.now.terms)) (part_of (without literals.part literals.j q.entry.0.now) of)) }
+        ++ map (replace_in_atom (entry q.entry.1.now.terms))
+        (part_of (without literals.part literals.j q.entry.0.now) of)) }
 {
     let Literals { i, part, j } = literals;
     let (clause, s) = p;
@@ -146,4 +149,93 @@ pub(crate) fn resolvent_of(
         antecedent: resolved_part(alloc, Part::Antecedent, literals, p, q)?,
         succedent: resolved_part(alloc, Part::Succedent, literals, p, q)?,
     })
+}
+
+// ---- paramodulants
+
+/// One part of both premises' instances without the equation of the first one.
+fn joined_part(
+    alloc: Global,
+    of: Part,
+    i: u32,
+    p: (&Clause, &Subst),
+    q: (&Clause, &Subst),
+) -> Result<Items<Atom>, AllocError>
+    requires { i < length p.0.now.succedent }
+    ensures { IfOk result (λ made. made ≡
+        map (replace_in_atom (entry p.entry.1.now.terms)) (part_of (without Succedent i p.entry.0.now) of)
+        ++ map (replace_in_atom (entry q.entry.1.now.terms)) (part_of q.entry.0.now of)) }
+{
+    let (clause, s) = p;
+    let (other, t) = q;
+    let first = left_of(clause, of, Part::Succedent, i as usize);
+    let second: (&[Atom], &[Atom]) = (other.part(of), &[]);
+    joined_instances(alloc, s.terms.as_slice(), first, t.terms.as_slice(), second)
+}
+
+/// The part of the spot of both premises' instances, with another term at the spot of the second one.
+fn rewritten_part(
+    alloc: Global,
+    i: u32,
+    spot: &Spot,
+    new: Term,
+    p: (&Clause, &Subst),
+    q: (&Clause, &Subst),
+) -> Result<Items<Atom>, AllocError>
+    requires i { i < length p.0.now.succedent }
+    requires spot { is_some (option_and_then (term_under spot.now.path)
+        (atom_at spot.now.part spot.now.place q.0.now)) ≡ true }
+    ensures { IfOk result (λ made. made ≡
+        map (replace_in_atom (entry p.entry.1.now.terms)) (part_of (without Succedent i p.entry.0.now) spot.now.part)
+        ++ changed_at spot.now.place (with_term_under spot.now.path new)
+        (map (replace_in_atom (entry q.entry.1.now.terms)) (part_of q.entry.0.now spot.now.part))) }
+{
+    let (clause, s) = p;
+    let (other, t) = q;
+    let (before, behind) = left_of(clause, spot.part, Part::Succedent, i as usize);
+    let atoms = other.part(spot.part);
+    let room = before.len() + behind.len() + atoms.len();
+    let mut made = Items::with_room(alloc, room)?;
+    add_instances(alloc, s.terms.as_slice(), before, &mut made)?;
+    add_instances(alloc, s.terms.as_slice(), behind, &mut made)?;
+    add_with(alloc, t.terms.as_slice(), atoms, spot, new, &mut made)?;
+    Ok(made)
+}
+
+/// The instances of both premises without the equation of the first one, and with the instance of this term of the
+/// first one at the spot of the second one.
+pub(crate) fn paramodulant_of(
+    alloc: Global,
+    i: u32,
+    spot: &Spot,
+    by: &Term,
+    p: (&Clause, &Subst),
+    q: (&Clause, &Subst),
+) -> Result<Clause, AllocError>
+    requires i { i < length p.0.now.succedent }
+    requires spot { is_some (option_and_then (term_under spot.now.path)
+        (atom_at spot.now.part spot.now.place q.0.now)) ≡ true }
+    ensures { IfOk result (λ made. made ≡ joined
+        (apply p.entry.1.now.terms (without Succedent i p.entry.0.now))
+        (with_term_at spot.now (replace (entry p.entry.1.now.terms) by.now)
+        (apply q.entry.1.now.terms q.entry.0.now))) }
+{
+    let new = replaced(alloc, p.1.terms.as_slice(), by)?;
+    match spot.part {
+        Part::Constraint => Ok(Clause {
+            constraint: rewritten_part(alloc, i, spot, new, p, q)?,
+            antecedent: joined_part(alloc, Part::Antecedent, i, p, q)?,
+            succedent: joined_part(alloc, Part::Succedent, i, p, q)?,
+        }),
+        Part::Antecedent => Ok(Clause {
+            constraint: joined_part(alloc, Part::Constraint, i, p, q)?,
+            antecedent: rewritten_part(alloc, i, spot, new, p, q)?,
+            succedent: joined_part(alloc, Part::Succedent, i, p, q)?,
+        }),
+        Part::Succedent => Ok(Clause {
+            constraint: joined_part(alloc, Part::Constraint, i, p, q)?,
+            antecedent: joined_part(alloc, Part::Antecedent, i, p, q)?,
+            succedent: rewritten_part(alloc, i, spot, new, p, q)?,
+        }),
+    }
 }

@@ -72,7 +72,8 @@ fn infer_from_one(alloc: Global, p: &Premise, out: &mut Vec<Line>) -> Result<(),
 /// # Errors
 ///
 /// `Big` exactly where the next conclusion has more than 4,096 symbols; `Memory` only where there is no memory, or an
-/// instance of more than 4,294,967,295 symbols would have to be compared. What comes before it in the list was appended.
+/// instance of more than 4,294,967,295 symbols would have to be compared. What comes before it in the list was
+/// appended.
 #[tactic(auto, using(crate::proofs::Composing::no_memory))]
 pub fn infer_pair(
     alloc: Global,

@@ -12,6 +12,7 @@ mod inferring;
 mod ordering;
 mod own;
 mod pairs;
+mod placing;
 mod premises;
 mod raising;
 mod resolution;

@@ -79,8 +79,8 @@ fn resolve_each(
     requires first { atom_at Succedent first.0 (clause_of pair.p.now) ≡ Some first.1.now }
     requires atoms { AreInPlace (clause_of pair.q.now) part atoms.now }
     ensures { Appended
-        (flat_map (λ y. resolve part pair.entry.p.now pair.entry.q.now (first.entry.0, first.entry.1.now) (y.0, y.1.now))
-        atoms.now)
+        (flat_map (λ y. resolve part pair.entry.p.now pair.entry.q.now (first.entry.0, first.entry.1.now)
+        (y.0, y.1.now)) atoms.now)
         out.old.items out.new.items result }
 {
     for k in 0..atoms.len() {

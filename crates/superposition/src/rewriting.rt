@@ -1,17 +1,17 @@
 //! Superposition: an equation of one premise at the subterms of another.
-ghost use Rattle.std.specs.Prelude.{◌≡◌, ℕ, List, ◌≤◌, ◌&&◌, ◌∷◌, ◌++◌, [], map, Some, true, option_map, slice_get, IfOk, OnOk};
+ghost use Rattle.std.specs.Prelude.{◌≡◌, ℕ, List, ◌≤◌, ◌∷◌, ◌++◌, [], map, Some, slice_get, IfOk, OnOk};
 ghost use Rattle.std.specs.List.{flat_map, enumerate_from};
 ghost use Rattle.spl_terms.specs.declared.term.Term.{Term};
 ghost use Rattle.spl_terms.specs.declared.atom.Atom.TheVariants.{Equal};
 ghost use Rattle.spl_terms.specs.declared.clause.Part.TheVariants.{Antecedent, Succedent};
-ghost use Rattle.spl_terms.specs.Clauses.{clause_symbols, in_order};
+ghost use Rattle.spl_terms.specs.Clauses.{clause_symbols};
 ghost use Rattle.spl_terms.specs.InOrder.{IsInOrder};
 ghost use Rattle.spl_truth.specs.Unifiers.{HasVariablesBelow, HaveVariablesBelow};
 ghost use Rattle.proof_steps.specs.Spots.{term_under};
-ghost use Rattle.proof_steps.specs.Steps.{has_entries, paramodulation};
 ghost use Rattle.spl_truth.specs.Truth.{entry};
 ghost use Rattle.unify.specs.Bindings.{substitution, IsTriangular};
-ghost use Rattle.calculus.specs.Inferences.{clause_of, renamed_apart, is_upper_side, rewriting_unifier, paths_in, superpositions};
+ghost use Rattle.calculus.specs.Inferences.{clause_of, renamed_apart, is_upper_side, rewriting_unifier};
+ghost use Rattle.calculus.specs.Inferences.{paths_in, superpositions};
 ghost use Rattle.superposition.specs.Appending.{Appended};
 ghost use Rattle.superposition.specs.Words.{AreInPlace};
 ghost use Rattle.superposition.specs.Pairs.{IsPair, AreRestrictions, raised};
@@ -22,6 +22,7 @@ ghost use Rattle.superposition.specs.Walks.{superpose_in, superpose_lent, superp
 ghost use Rattle.superposition.specs.Walks.{rewrite, rewrite_below, rewrite_argument};
 
 use crate::appending::append_from_both;
+use crate::building::paramodulant_of;
 use crate::equations::Equation;
 use crate::error::InferError;
 use crate::ordering::{Standing, standings};
@@ -30,10 +31,10 @@ use crate::premises::Premise;
 use crate::raising::raised;
 use crate::unifiers::restrictions;
 use crate::upper::{is_left_upper, is_upper_raised};
-use calculus::Kept;
-use proof_steps::{Line, Rule, paramodulated};
-use spl_terms::{Atom, Clause, Items, Part, Spot, Term};
-use spl_truth::{Subst, instance, laws};
+use calculus::{Kept, no_unifier_is_lost};
+use proof_steps::{Line, Rule};
+use spl_terms::{Atom, Items, Part, Spot, Term};
+use spl_truth::{Subst, laws};
 use std::alloc::{AllocError, Global};
 use unify::{Bindings, fits, unify_bound};
 
@@ -93,7 +94,8 @@ fn unifier_in_order(
     term: &Term,
 ) -> Result<Option<(Subst, Subst)>, AllocError>
     requires ready { IsReady r }
-    requires stands { term_under path.now (renamed_apart r.pair.p.now r.atom.now) ≡ Some (raised r.pair.first term.now) }
+    requires stands { term_under path.now (renamed_apart r.pair.p.now r.atom.now)
+        ≡ Some (raised r.pair.first term.now) }
     requires below { HasVariablesBelow r.pair.both (raised r.pair.first term.now) }
     requires upper { IsUpperAt r path.now }
     ensures { IfOk result (AreRestrictions r.entry.pair.first
@@ -121,25 +123,6 @@ fn unifier_in_order(
     Ok(Some(both))
 }
 
-/// What superposition concludes by these substitutions, before it is put in order.
-fn superposed(
-    alloc: Global,
-    pair: Pair,
-    e: Equation,
-    spot: &Spot,
-    s: &Subst,
-    t: &Subst,
-) -> Result<Option<Clause>, AllocError>
-    requires { (has_entries s.now.terms (clause_of pair.p.now) && has_entries t.now.terms (clause_of pair.q.now)) ≡ true }
-    ensures { IfOk result (λ made. option_map in_order made ≡
-        paramodulation e.entry.place e.entry.right spot.now s.now.terms t.now.terms
-        (clause_of pair.entry.p.now) (clause_of pair.entry.q.now)) }
-{
-    let first = instance(alloc, s, &pair.p.statement.clause)?;
-    let second = instance(alloc, t, &pair.q.statement.clause)?;
-    paramodulated(alloc, e.place, e.right, spot, first, second)
-}
-
 /// Superposes the equation at this term, which stands at the end of the path, if they have a unifier that keeps
 /// the order.
 fn superpose(
@@ -150,22 +133,25 @@ fn superpose(
     out: &mut Vec<Line>,
 ) -> Result<(), InferError>
     requires ready { IsReady r }
-    requires stands { term_under path.now (renamed_apart r.pair.p.now r.atom.now) ≡ Some (raised r.pair.first term.now) }
+    requires stands { term_under path.now (renamed_apart r.pair.p.now r.atom.now)
+        ≡ Some (raised r.pair.first term.now) }
     requires below { HasVariablesBelow r.pair.both (raised r.pair.first term.now) }
     requires upper { IsUpperAt r path.now }
     ensures { Appended (rewrite r.entry path.now) out.old.items out.new.items result }
 {
+    no_unifier_is_lost();
     let Some((s, t)) = unifier_in_order(alloc, r, path, term)? else {
         return Ok(());
     };
     let (pair, e, part, place) = (r.pair, r.equation, r.part, r.place);
+    let (p, q) = (&pair.p.statement.clause, &pair.q.statement.clause);
     let held = Items::from_slice(alloc, path)?;
     let spot = Spot {
         part,
         place,
         path: held,
     };
-    let made = superposed(alloc, pair, e, &spot, &s, &t)?;
+    let made = paramodulant_of(alloc, e.place, &spot, e.right_side, (p, &s), (q, &t))?;
     let rule = Rule::Paramodulate {
         i: e.place,
         right_to_left: e.right,
@@ -173,7 +159,7 @@ fn superpose(
         s,
         t,
     };
-    append_from_both(alloc, pair.p, pair.q, made, rule, out)
+    append_from_both(alloc, pair.p, pair.q, Some(made), rule, out)
 }
 
 // ---- the walk through an atom
@@ -196,7 +182,8 @@ fn superpose_in_term(
     out: &mut Vec<Line>,
 ) -> Result<(), InferError>
     requires ready { IsReady r }
-    requires stands { term_under path.old.items (renamed_apart r.pair.p.now r.atom.now) ≡ Some (raised r.pair.first term.now) }
+    requires stands { term_under path.old.items (renamed_apart r.pair.p.now r.atom.now)
+        ≡ Some (raised r.pair.first term.now) }
     requires below { HasVariablesBelow r.pair.both (raised r.pair.first term.now) }
     requires upper { IsUpperAt r path.old.items }
     ensures appended { Appended

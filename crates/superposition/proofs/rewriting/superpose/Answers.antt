@@ -1,21 +1,18 @@
-use Rattle.std.proofs.Common.{Ok, subst}
+use Rattle.std.proofs.Common.{Ok, subst, Some}
 use Rattle.calculus.specs.Inferences.{rewriting_unifier}
 use Rattle.superposition.specs.Appending.{Appended}
 use Rattle.superposition.specs.AppendingLaws.{nothing}
-use Rattle.superposition.specs.Pairs.{AreRestrictions}
+use Rattle.superposition.specs.Pairs.{AreRestrictions, raised}
 use Rattle.superposition.specs.Readings.{reading_of}
 use Rattle.superposition.specs.Walks.{raised_atom}
-use Rattle.superposition.proofs.Resolving.{parts_fit}
-use Rattle.superposition.proofs.Walked.{length-rewriting_unifier, no_superposed_line, superposed_line}
+use Rattle.superposition.proofs.Walked.{equation_within, spot_there, no_superposed_line, paramodulation_is, superposed_line}
 use Rattle.superposition.proofs.rewriting.superpose.Goals as goal
 
-pub superposed-requires : goal.superposed-requires
-superposed-requires c =
-    let r = c.args.r in
-    let pair = r.pair in
-    let o = rewriting_unifier pair.both (reading_of r.equation) (raised_atom r) c.args.path.now in
-    let parts = subst (AreRestrictions pair.first o) c.in-Some.is c.in_ok-s.ensures in
-    parts_fit pair.p.now pair.q.now pair.first pair.both parts.0 _ _ c.requires.ready.pair.first c.requires.ready.pair.both (length-rewriting_unifier pair.both (reading_of r.equation) (raised_atom r) c.args.path.now parts.0 parts.1) parts.2 parts.3
+pub paramodulant_of-requires-clause-i : goal.paramodulant_of-requires-clause-i
+paramodulant_of-requires-clause-i c = equation_within c.args.r c.requires.ready
+
+pub paramodulant_of-requires-clause-spot : goal.paramodulant_of-requires-clause-spot
+paramodulant_of-requires-clause-spot c = spot_there c.args.r c.requires.ready c.args.path.now c.in_ok-held.held (raised c.args.r.pair.first c.args.term.now) c.in_ok-held.ensures c.requires.stands
 
 pub returns : goal.returns
 returns c =
@@ -24,7 +21,8 @@ returns c =
     let o = rewriting_unifier pair.both (reading_of r.equation) (raised_atom r) c.args.path.now in
     let parts = subst (AreRestrictions pair.first o) c.in-Some.is c.in_ok-s.ensures in
     subst (λ l. Appended l c.args.out.now.items c.append_from_both.new.out.items c.append_from_both.result)
-    (superposed_line r c.requires.ready c.args.path.now parts.0 _ _ c.in_ok-held.held c.in_ok-made.made parts.1 parts.2 parts.3 c.in_ok-held.ensures c.in_ok-made.ensures)
+    (superposed_line r c.requires.ready c.args.path.now parts.0 _ _ c.in_ok-held.held (Some c.in_ok-made.made) parts.1 parts.2 parts.3 c.in_ok-held.ensures
+    (paramodulation_is r c.requires.ready c.args.path.now c.no_unifier_is_lost.ensures.superposition (raised pair.first c.args.term.now) c.requires.stands parts.0 _ _ c.in_ok-held.held c.in_ok-made.made parts.1 parts.2 parts.3 c.in_ok-held.ensures c.in_ok-made.ensures))
     c.append_from_both.ensures
 
 pub returns-in_default : goal.returns-in_default
