@@ -1,5 +1,5 @@
 -- What a queue holds as clauses are added and dropped.
-use Rattle.std.proofs.Common.{◌≡◌, ◌∙◌, ℕ, zero, suc, ◌+◌, ◌-◌, ◌<◌, ◌≤◌, ◌⊎◌, inl, inr, Bool, true, false, List, [], ◌∷◌, length, map, Some, All, Contains, IsPermutation, heap_items, heap_len, Option, None, IfSome, IfNone, slice_index_or, refl, sym, ap, subst, arith, Global}
+use Rattle.std.proofs.Common.{◌≡◌, ◌∙◌, ℕ, ◌+◌, ◌-◌, ◌<◌, ◌≤◌, inl, inr, Bool, true, false, List, [], ◌∷◌, length, map, Some, All, Contains, IsPermutation, heap_items, heap_len, Option, None, IfSome, IfNone, slice_index_or, refl, sym, ap, subst, arith, Global}
 use Rattle.std.specs.List.{slice_get}
 use Rattle.std.proofs.lemmas.Option.{slice_get_within}
 use Rattle.std.specs.BinaryHeap.{IsHeap, PopsGreatest}
@@ -16,11 +16,11 @@ use Rattle.case_journal.specs.declared.event.Entry.{Entry}
 use Rattle.case_journal.specs.Journal.{Setting, ledger, steps}
 use Rattle.case_journal.specs.Picking.{is_passive}
 use Rattle.case_queue.specs.declared.queue.CaseQueue.{CaseQueue}
-use Rattle.case_queue.specs.Queues.{HasFirst, HasQueue, HasPassive, IsPut, PutsPassive, IsEntry, IsTop, lighter_first, entries}
+use Rattle.case_queue.specs.Queues.{HasFirst, HasQueue, HasPassive, IsPut, IsEntry, IsTop, lighter_first, entries}
 use Rattle.case_queue.specs.LineLaws.{numbered_some, numbered_once}
 
 -- after one more clause, which is not passive
-first_skips : (s : Setting) (past : List Entry) (m n : ℕ) (q : CaseQueue) → 1 ≤ n → HasFirst s past m (n - 1) q → is_passive s past m n ≡ false → HasFirst s past m n q
+pub first_skips : (s : Setting) (past : List Entry) (m n : ℕ) (q : CaseQueue) → 1 ≤ n → HasFirst s past m (n - 1) q → is_passive s past m n ≡ false → HasFirst s past m n q
 first_skips s past m n q one h out = record {
   complete = λ i l within passes found. elim (cases_lt i n) [
     | inl low ↦ h.complete i l (omega (arith, low)) passes found
@@ -52,7 +52,7 @@ put_sized s past n old new p h =
     (All-cons (IsEntry s past) own (entries old) (record { line = p.line; found = p.found; symbols = refl }) h)
 
 -- after one more clause, which was put into the queue
-first_puts : (s : Setting) (past : List Entry) (m n : ℕ) (old new : CaseQueue) → 1 ≤ n → HasFirst s past m (n - 1) old → IsPut s past n old new → HasFirst s past m n new
+pub first_puts : (s : Setting) (past : List Entry) (m n : ℕ) (old new : CaseQueue) → 1 ≤ n → HasFirst s past m (n - 1) old → IsPut s past n old new → HasFirst s past m n new
 first_puts s past m n old new one h p =
     let w = h.within in
     let same : new.oldest ≡ old.oldest = (let o = p.oldest in omega (arith, o, one, w)) in
@@ -67,10 +67,6 @@ first_puts s past m n old new one h p =
       within = omega (arith, same, one, w);
       older = λ i low less. h.older i low (omega (arith, less, same));
     }
-
-pub first_more : (s : Setting) (past : List Entry) (m n : ℕ) (old new : CaseQueue) → 1 ≤ n → HasFirst s past m (n - 1) old → PutsPassive s past m n old new → HasFirst s past m n new
-first_more s past m n old new one h (inl p) = first_puts s past m n old new one h p.1
-first_more s past m n old new one h (inr p) = subst (HasFirst s past m n) (sym p.1) (first_skips s past m n old one h p.0)
 
 -- of the clauses with the first of these numbers, up to count, those that are passive at m are in the queue, and none of them is older than it says
 pub record HasThese (s : Setting) (past : List Entry) (m : ℕ) (numbers : List ℕ) (count : ℕ) (q : CaseQueue) : Type 0 where
@@ -95,7 +91,8 @@ these_none s past m numbers q e h one high = record {
 same_number : (numbers : List ℕ) (k count i n : ℕ) → k ≡ count → slice_get numbers k ≡ Some i → slice_get numbers count ≡ Some n → i ≡ n
 same_number numbers k count i n e at here = let q : Some i ≡ Some n = sym at ∙ (ap (slice_get numbers) e ∙ here) in cc
 
-these_puts : (s : Setting) (past : List Entry) (m : ℕ) (numbers : List ℕ) (count n : ℕ) (old new : CaseQueue) → slice_get numbers count ≡ Some n → 1 ≤ n → HasThese s past m numbers count old → IsPut s past n old new → HasThese s past m numbers (count + 1) new
+-- after one more of them
+pub these_puts : (s : Setting) (past : List Entry) (m : ℕ) (numbers : List ℕ) (count n : ℕ) (old new : CaseQueue) → slice_get numbers count ≡ Some n → 1 ≤ n → HasThese s past m numbers count old → IsPut s past n old new → HasThese s past m numbers (count + 1) new
 these_puts s past m numbers count n old new here one h p =
     let o = p.oldest in
     let least : (new.oldest ≤ old.oldest) × (new.oldest ≤ n) = (omega (arith, o), omega (arith, o)) in
@@ -114,33 +111,11 @@ these_puts s past m numbers count n old new here one h p =
       ];
     }
 
-these_skip : (s : Setting) (past : List Entry) (m : ℕ) (numbers : List ℕ) (count n : ℕ) (q : CaseQueue) → slice_get numbers count ≡ Some n → is_passive s past m n ≡ false → HasThese s past m numbers count q → HasThese s past m numbers (count + 1) q
-these_skip s past m numbers count n q here out h =
-    let last : (k i : ℕ) → k < count + 1 → slice_get numbers k ≡ Some i → is_passive s past m i ≡ true → k < count = λ k i less at passes. elim (cases_lt k count) [
-      | inl low ↦ low
-      | inr high ↦
-          let e = same_number numbers k count i n (let e : k ≡ count = omega (arith, less, high) in e) at here in
-          let bad : true ≡ false = sym passes ∙ (ap (is_passive s past m) e ∙ out) in absurd (cc)
-    ] in
-    record {
-      complete = λ k i l less at passes found. h.complete k i l (last k i less at passes) at passes found;
-      sized = h.sized;
-      ordered = h.ordered;
-      some = h.some;
-      within = h.within;
-      older = λ k i less at passes. h.older k i (last k i less at passes) at passes;
-    }
-
--- after one more of them
-pub these_more : (s : Setting) (past : List Entry) (m : ℕ) (numbers : List ℕ) (count n : ℕ) (old new : CaseQueue) → slice_get numbers count ≡ Some n → 1 ≤ n → HasThese s past m numbers count old → PutsPassive s past m n old new → HasThese s past m numbers (count + 1) new
-these_more s past m numbers count n old new here one h (inl p) = these_puts s past m numbers count n old new here one h p.1
-these_more s past m numbers count n old new here one h (inr p) = subst (HasThese s past m numbers (count + 1)) (sym p.1) (these_skip s past m numbers count n old here p.0 h)
-
 -- after all of them
 pub these_all : (s : Setting) (past : List Entry) (m : ℕ) (numbers : List ℕ) (count : ℕ) (q : CaseQueue) → length numbers ≤ count → HasPassive s past m numbers → HasThese s past m numbers count q → HasQueue s past m q
 these_all s past m numbers count q long all h =
     let place : (i : ℕ) → 1 ≤ i → i ≤ steps s past → is_passive s past m i ≡ true → (k : ℕ) × (k < count) × (slice_get numbers k ≡ Some i) = λ i one within passes.
-    let r = all.complete i one within passes in (r.0, omega (arith, slice_get_within numbers r.0 i r.1, long), r.1) in
+    let r = all i one within passes in (r.0, omega (arith, slice_get_within numbers r.0 i r.1, long), r.1) in
     record {
       complete = λ i l within passes found. let r = place i (numbered_some (ledger s past) i l found) within passes in h.complete r.0 i l r.1 r.2 passes found;
       sized = h.sized;

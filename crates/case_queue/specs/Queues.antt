@@ -1,5 +1,5 @@
 -- What a queue of clauses holds for a node.
-use Rattle.std.specs.Prelude.{◌≡◌, ◌⊎◌, ℕ, ◌+◌, ◌<◌, ◌≤◌, min, Bool, true, false, List, ◌∷◌, map, fold, slice_get, Option, Some, None, option_map, All, Contains, IsPermutation}
+use Rattle.std.specs.Prelude.{◌≡◌, ℕ, ◌+◌, ◌<◌, ◌≤◌, min, Bool, true, false, List, ◌∷◌, map, fold, slice_get, Option, Some, None, option_map, All, Contains, IsPermutation}
 use Rattle.std.specs.Ordering.{nat_cmp, ordering_then}
 use Rattle.std.specs.BinaryHeap.{IsHeap, IsUpperBound, heap_items}
 use Rattle.std.specs.declared.cmp.Ordering.{Ordering}
@@ -40,10 +40,13 @@ pub record HasFirst (s : Setting) (past : List Entry) (m count : ℕ) (q : CaseQ
 abbrev pub HasQueue : Setting → List Entry → ℕ → CaseQueue → Type 0
 HasQueue s past m q = HasFirst s past m (steps s past) q
 
--- the numbers are those of clauses, and those of all clauses that are passive at m are among them
-pub record HasPassive (s : Setting) (past : List Entry) (m : ℕ) (numbers : List ℕ) : Type 0 where
-  pub are : (k n : ℕ) → slice_get numbers k ≡ Some n → (1 ≤ n) × (n ≤ steps s past)
-  pub complete : (i : ℕ) → 1 ≤ i → i ≤ steps s past → is_passive s past m i ≡ true → (k : ℕ) × (slice_get numbers k ≡ Some i)
+-- the numbers are those of clauses
+abbrev pub AreOfLedger : Setting → List Entry → List ℕ → Type 0
+AreOfLedger s past numbers = (k n : ℕ) → slice_get numbers k ≡ Some n → (1 ≤ n) × (n ≤ steps s past)
+
+-- the numbers of all clauses that are passive at m are among these
+abbrev pub HasPassive : Setting → List Entry → ℕ → List ℕ → Type 0
+HasPassive s past m numbers = (i : ℕ) → 1 ≤ i → i ≤ steps s past → is_passive s past m i ≡ true → (k : ℕ) × (slice_get numbers k ≡ Some i)
 
 -- clause n was put into the queue
 pub record IsPut (s : Setting) (past : List Entry) (n : ℕ) (old new : CaseQueue) : Type 0 where
@@ -52,10 +55,6 @@ pub record IsPut (s : Setting) (past : List Entry) (n : ℕ) (old new : CaseQueu
   pub added : IsPermutation ((clause_symbols line.stated.clause, n) ∷ entries old) (entries new)
   pub ordered : IsHeap lighter_first (heap_items old.lightest) → IsHeap lighter_first (heap_items new.lightest)
   pub oldest : new.oldest ≡ min old.oldest n
-
--- clause n was put into the queue where it is passive at m, else nothing was
-abbrev pub PutsPassive : Setting → List Entry → ℕ → ℕ → CaseQueue → CaseQueue → Type 0
-PutsPassive s past m n old new = ((is_passive s past m n ≡ true) × IsPut s past n old new) ⊎ ((is_passive s past m n ≡ false) × (new ≡ old))
 
 -- the best of the clauses that are passive at m, by age or by size
 abbrev pub best_by : Bool → Setting → List Entry → ℕ → Option ℕ

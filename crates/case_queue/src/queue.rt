@@ -2,7 +2,7 @@
 ghost use Rattle.std.specs.Prelude.{◌≡◌, ℕ, ◌-◌, ◌<◌, ◌≤◌, true, false, [], MatchOption, OnOk};
 ghost use Rattle.case_journal.specs.Journal.{nodes, steps};
 ghost use Rattle.case_journal.specs.Picking.{pick_at};
-ghost use Rattle.case_queue.specs.Queues.{entries, best_by, HasFirst, HasQueue, HasPassive, PutsPassive, IsTop};
+ghost use Rattle.case_queue.specs.Queues.{entries, best_by, AreOfLedger, HasFirst, HasQueue, HasPassive, IsPut, IsTop};
 
 use spl_terms::symbols_of;
 use spl_truth::is_fifth;
@@ -31,21 +31,21 @@ impl CaseQueue {
         }
     }
 
-    /// Makes it the queue of the node, where all clauses that are passive there are among those with these numbers, from 1,
-    /// in any order. Whatever was in it goes, and its memory is kept. It takes a look at each of the numbers.
+    /// Makes it the queue of each node where all passive clauses are among those with these numbers, from 1, in any order.
+    /// Whatever was in it goes, and its memory is kept. It takes a look at each of the numbers.
     ///
     /// # Errors
     ///
     /// Only where there is no memory; then it is no node's queue.
-    pub fn fill(&mut self, table: &Table, node: u32, numbers: &[u32]) -> Result<(), AllocError>
-        requires there { node < nodes table.now.past }
-        requires numbers { HasPassive table.now.setting table.now.past node numbers.now }
-        ensures queue { OnOk result (HasQueue table.now.setting table.now.past node self.new) }
+    pub fn fill(&mut self, table: &Table, numbers: &[u32]) -> Result<(), AllocError>
+        requires { AreOfLedger table.now.setting table.now.past numbers.now }
+        ensures queue { OnOk result ((m : ℕ) → HasPassive table.now.setting table.now.past m numbers.now
+            → HasQueue table.now.setting table.now.past m self.new) }
     {
         self.lightest.clear();
         self.oldest = table.steps().max(1);
         for k in 0..numbers.len() {
-            self.put(table, node, numbers[k])?;
+            self.put(table, numbers[k])?;
         }
         Ok(())
     }
@@ -62,23 +62,23 @@ impl CaseQueue {
         requires first { HasFirst table.now.setting table.now.past node (number - 1) self.old }
         ensures first { OnOk result (HasFirst table.now.setting table.now.past node number self.new) }
     {
-        self.put(table, node, number)?;
+        if !table.passive(node, number) {
+            return Ok(());
+        }
+        self.put(table, number)?;
         Ok(())
     }
 
-    /// Adds the clause with this number, from 1, if it is passive at the node.
-    fn put(&mut self, table: &Table, node: u32, number: u32) -> Result<(), AllocError>
-        requires there { node < nodes table.now.past }
+    /// Adds the clause with this number, from 1.
+    fn put(&mut self, table: &Table, number: u32) -> Result<(), AllocError>
         requires some { 1 ≤ number }
         requires within { number ≤ steps table.now.setting table.now.past }
-        ensures { OnOk result (PutsPassive table.now.setting table.now.past node number self.old self.new) }
+        ensures { OnOk result (IsPut table.now.setting table.now.past number self.old self.new) }
     {
         table.laws();
-        if table.passive(node, number) {
-            let symbols = symbols_of(&table.line(number).stated.clause);
-            self.lightest.push(Reverse((symbols, number)))?;
-            self.oldest = self.oldest.min(number);
-        }
+        let symbols = symbols_of(&table.line(number).stated.clause);
+        self.lightest.push(Reverse((symbols, number)))?;
+        self.oldest = self.oldest.min(number);
         Ok(())
     }
 

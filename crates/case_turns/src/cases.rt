@@ -1,11 +1,15 @@
 //! One case after another, by the one worker of a table.
-ghost use Rattle.std.specs.Prelude.{◌≡◌, ◌<◌, OnOk, IsSome, None};
+ghost use Rattle.std.specs.Prelude.{◌≡◌, ◌<◌, ◌∷◌, IfOk, OnOk, IsSome, None};
+ghost use Rattle.case_journal.specs.declared.event.Event.TheVariants.{Claim};
 ghost use Rattle.case_journal.specs.Journal.{rounds};
+ghost use Rattle.case_journal.specs.Facts.{Holds};
 ghost use Rattle.case_journal.specs.Ending.{first_end, reason};
 ghost use Rattle.case_journal.specs.Legal.{IsSettled};
+ghost use Rattle.case_turns.specs.Turns.{IsFree};
+ghost use Rattle.case_turns.specs.Desks.{HasTrail, IsDesk};
 ghost use Rattle.case_turns.specs.Working.{IsBetween};
 
-use crate::desk::take_desk;
+use crate::desk::{Desk, take_desk};
 use crate::leaves::{finish_round, work_on};
 use backjump::settle;
 use case_journal::Event;
@@ -13,40 +17,14 @@ use journal_laws::{chosen_leaves_are_held, dead_nodes_stay_dead};
 use split_tree::Table;
 use std::alloc::{AllocError, Global};
 
-/// Works on at the leaf that the worker holds, if it holds one: first it finishes the round of the clause that is chosen
-/// there, if one is.
-fn resume(alloc: Global, table: &mut Table) -> Result<(), AllocError>
-    requires one { table.old.setting.workers ≡ 1 }
-    requires settled { IsSettled table.old.setting table.old.past }
-    requires unended { first_end table.old.past ≡ None }
-    ensures setting { table.new.setting ≡ table.old.setting }
-    ensures between { OnOk result (IsBetween table.new 1) }
-{
-    table.laws();
-    let Some(node) = table.held(1) else {
-        return Ok(());
-    };
-    let mut desk = take_desk(alloc, table, 1, node)?;
-    match table.chosen(node) {
-        None => work_on(alloc, table, node, &mut desk),
-        Some(_) => {
-            if finish_round(alloc, table, node, &mut desk)? {
-                work_on(alloc, table, node, &mut desk)
-            } else {
-                Ok(())
-            }
-        }
-    }
-}
-
-/// Claims the leftmost live leaf, and works there.
-fn work_case(alloc: Global, table: &mut Table) -> Result<(), AllocError>
+/// Claims the leftmost live leaf, and answers which it is.
+fn claim(table: &mut Table) -> Result<u32, AllocError>
     requires one { table.old.setting.workers ≡ 1 }
     requires going { reason table.old.setting table.old.past ≡ None }
     requires between { IsBetween table.old 1 }
     ensures setting { table.new.setting ≡ table.old.setting }
-    ensures between { OnOk result (IsBetween table.new 1) }
-    ensures more { OnOk result (first_end table.new.past ≡ None → rounds table.old.past < rounds table.new.past) }
+    ensures free { IfOk result (λ node. IsFree table.new 1 node) }
+    ensures past { IfOk result (λ node. table.new.past ≡ record { by = 1; event = Claim node } ∷ table.old.past) }
 {
     chosen_leaves_are_held();
     dead_nodes_stay_dead();
@@ -57,8 +35,64 @@ fn work_case(alloc: Global, table: &mut Table) -> Result<(), AllocError>
         unreachable!();
     };
     table.apply(1, Event::Claim { node });
-    let mut desk = take_desk(alloc, table, 1, node)?;
-    work_on(alloc, table, node, &mut desk)
+    Ok(node)
+}
+
+/// The leaf that the worker holds; it claims the leftmost live leaf where it holds none.
+fn held_or_claimed(table: &mut Table) -> Result<u32, AllocError>
+    requires one { table.old.setting.workers ≡ 1 }
+    requires going { reason table.old.setting table.old.past ≡ None }
+    requires settled { IsSettled table.old.setting table.old.past }
+    ensures setting { table.new.setting ≡ table.old.setting }
+    ensures holds { IfOk result (λ node. Holds table.new.setting table.new.past 1 node) }
+    ensures settled { OnOk result (IsSettled table.new.setting table.new.past) }
+    ensures unended { OnOk result (first_end table.new.past ≡ None) }
+{
+    table.laws();
+    match table.held(1) {
+        Some(node) => Ok(node),
+        None => claim(table),
+    }
+}
+
+/// Works on at the leaf that the worker holds: first it finishes the round of the clause that is chosen there, if one is.
+fn resume(alloc: Global, table: &mut Table, node: u32, desk: &mut Desk) -> Result<(), AllocError>
+    requires one { table.old.setting.workers ≡ 1 }
+    requires holds { Holds table.old.setting table.old.past 1 node }
+    requires settled { IsSettled table.old.setting table.old.past }
+    requires unended { first_end table.old.past ≡ None }
+    requires desk { IsDesk table.old.setting table.old.past 1 node desk.old }
+    ensures setting { table.new.setting ≡ table.old.setting }
+    ensures between { OnOk result (IsBetween table.new 1) }
+    ensures trail { OnOk result (HasTrail table.new.setting table.new.past 1 desk.new) }
+{
+    table.laws();
+    match table.chosen(node) {
+        None => work_on(alloc, table, node, desk),
+        Some(_) => {
+            if finish_round(alloc, table, node, desk)? {
+                work_on(alloc, table, node, desk)
+            } else {
+                Ok(())
+            }
+        }
+    }
+}
+
+/// Claims the leftmost live leaf, and works there.
+fn work_case(alloc: Global, table: &mut Table, desk: &mut Desk) -> Result<(), AllocError>
+    requires one { table.old.setting.workers ≡ 1 }
+    requires going { reason table.old.setting table.old.past ≡ None }
+    requires between { IsBetween table.old 1 }
+    requires trail { HasTrail table.old.setting table.old.past 1 desk.old }
+    ensures setting { table.new.setting ≡ table.old.setting }
+    ensures between { OnOk result (IsBetween table.new 1) }
+    ensures trail { OnOk result (HasTrail table.new.setting table.new.past 1 desk.new) }
+    ensures more { OnOk result (first_end table.new.past ≡ None → rounds table.old.past < rounds table.new.past) }
+{
+    let node = claim(table)?;
+    desk.move_to(alloc, table, node)?;
+    work_on(alloc, table, node, desk)
 }
 
 /// Works on one case after another, until there is a reason to end.
@@ -72,13 +106,14 @@ fn work(alloc: Global, table: &mut Table) -> Result<(), AllocError>
     if table.reason().is_some() {
         return Ok(());
     }
-    table.laws();
-    resume(alloc, table)?;
+    let node = held_or_claimed(table)?;
+    let mut desk = take_desk(alloc, table, 1, node)?;
+    resume(alloc, table, node, &mut desk)?;
     if table.reason().is_some() {
         return Ok(());
     }
     loop {
-        work_case(alloc, table)?;
+        work_case(alloc, table, &mut desk)?;
         if table.reason().is_some() {
             return Ok(());
         }

@@ -7,7 +7,7 @@ ghost use Rattle.case_journal.specs.Ending.{first_end};
 ghost use Rattle.case_journal.specs.Legal.{IsSettled};
 ghost use Rattle.case_journal.specs.Picking.{pick_at};
 ghost use Rattle.case_turns.specs.Turns.{IsFree};
-ghost use Rattle.case_turns.specs.Desks.{IsDesk};
+ghost use Rattle.case_turns.specs.Desks.{HasTrail, IsDesk};
 ghost use Rattle.case_turns.specs.Working.{IsBetween, IsBusy, GoesOnAt};
 
 use crate::appending::{Appended, append};
@@ -31,6 +31,7 @@ pub fn finish_round(
     requires desk { IsDesk table.old.setting table.old.past 1 node desk.old }
     ensures setting { table.new.setting ≡ table.old.setting }
     ensures held { IfOk result (λ held. GoesOnAt table.new 1 node desk.new held) }
+    ensures trail { OnOk result (HasTrail table.new.setting table.new.past 1 desk.new) }
     ensures more { OnOk result (rounds table.old.past ≤ rounds table.new.past) }
 {
     views_have_the_clauses();
@@ -82,6 +83,7 @@ fn work_round(
     requires desk { IsDesk table.old.setting table.old.past 1 node desk.old }
     ensures setting { table.new.setting ≡ table.old.setting }
     ensures held { IfOk result (λ held. GoesOnAt table.new 1 node desk.new held) }
+    ensures trail { OnOk result (HasTrail table.new.setting table.new.past 1 desk.new) }
     ensures more { OnOk result (first_end table.new.past ≡ None → rounds table.old.past < rounds table.new.past) }
 {
     chosen_leaves_are_held();
@@ -112,6 +114,7 @@ pub fn work_on(
     requires desk { IsDesk table.old.setting table.old.past 1 node desk.old }
     ensures setting { table.new.setting ≡ table.old.setting }
     ensures between { OnOk result (IsBetween table.new 1) }
+    ensures trail { OnOk result (HasTrail table.new.setting table.new.past 1 desk.new) }
     ensures more { OnOk result (first_end table.new.past ≡ None → rounds table.old.past < rounds table.new.past) }
 {
     loop {

@@ -4,6 +4,7 @@ pub mod CaseSteps
 pub mod Orders
 pub mod Members
 pub mod Owners
+pub mod Splits
 pub mod Searches
 pub mod Meetings
 pub mod FiledSteps

@@ -4,3 +4,5 @@ pub mod Caches
 pub mod Marks
 pub mod MarkLaws
 pub mod PlaceLaws
+pub mod Trails
+pub mod TrailLaws

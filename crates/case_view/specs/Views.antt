@@ -1,5 +1,6 @@
 -- What a worker's view of a case has, and for which node and journal a view stands.
 use Rattle.std.specs.Prelude.{◌≡◌, ◌⊎◌, ℕ, ◌+◌, ◌≤◌, Bool, true, ◌==◌, nat_le, List, [], ◌∷◌, ◌++◌, length, Option, Some, None, option_map, option_and_then, slice_get, if◌then◌else◌}
+use Rattle.std.specs.List.{list_any}
 use Rattle.spl_terms.specs.declared.clause.Part.{Part}
 use Rattle.spl_terms.specs.Clauses.{renumbered}
 use Rattle.dep_sets.specs.declared.deps.Assumption.{Assumption}
@@ -48,6 +49,10 @@ owner_among at ns path deps = at
 abbrev pub owner_on : List ℕ → List Assumption → List Assumption → ℕ
 owner_on [] path deps = 0
 owner_on (root ∷ ns) path deps = owner_among root ns path deps
+
+-- clause i was split where one of these is assumed
+abbrev pub is_split_on : List Assumption → ℕ → Bool
+is_split_on path i = list_any (λ a. a.split == i) path
 
 -- ---- clauses at a node
 

@@ -8,9 +8,12 @@
 mod filed;
 mod kept;
 mod laws;
+mod trail;
 mod view;
 mod walking;
 
 pub use kept::{Case, Kept, Mark};
-pub use laws::{paths_give_the_owners, views_have_the_clauses};
+pub use laws::{paths_give_the_owners, paths_give_the_splits, views_have_the_clauses};
+pub use trail::move_to_held;
 pub use view::CaseView;
+pub use walking::is_among;

@@ -28,8 +28,8 @@ fn keep(alloc: Global, number: u32, line: &Line) -> Result<Kept, AllocError>
 
 // ---- one event
 
-/// Whether the node is one of these, which rise.
-fn is_among(nodes: &[u32], node: u32) -> bool
+/// Whether the number is one of these, which rise.
+pub fn is_among(nodes: &[u32], node: u32) -> bool
     requires { IsRising nodes.now }
     ensures { result ≡ is_among nodes.now node }
 {

@@ -12,12 +12,12 @@ ghost use Rattle.prover_top.specs.Outcomes.{IsTableOf, IsProved, answer_of, IsAn
 
 use crate::answers::Answer;
 use case_journal::End;
+use case_turns::alone;
 use proof_extract::{extract, first_contradiction};
 use proof_steps::Line;
 use spl_terms::Items;
 use split_tree::Table;
 use std::alloc::{AllocError, Global};
-use worker_cases::alone;
 
 /// An answer, and the table and the proof behind it.
 #[derive(Debug, Drop)]

@@ -1,23 +1,32 @@
-use Rattle.std.proofs.Common.{◌≡◌, ◌<◌, ◌+◌, OnOk, None, ap, subst, arith}
+use Rattle.std.proofs.Common.{◌≡◌, ◌<◌, ◌+◌, ◌∷◌, [], OnOk, None, sym, ap, subst, arith}
+use Rattle.case_journal.specs.declared.event.Event.TheVariants.{Claim}
 use Rattle.case_journal.specs.Journal.{rounds}
+use Rattle.case_journal.specs.Facts.{Holds}
 use Rattle.case_journal.specs.Ending.{first_end}
-use Rattle.case_turns.proofs.Rounds.{claim_free, between_moved, moved_open}
+use Rattle.case_turns.proofs.Desks.{trail_later_on, trail_own, desk_at}
 use Rattle.case_turns.proofs.cases.work_case.Goals as goal
 
-pub work_on-requires-clause-free : goal.work_on-requires-clause-free
-work_on-requires-clause-free c =
+pub move_to-requires-clause-trail : goal.move_to-requires-clause-trail
+move_to-requires-clause-trail c =
     let t = c.args.table.now in
-    let r = c.reserve.new.self in
-    let e = c.reserve.ensures in
-    let n = c.apply.new.self in
-    let unended : first_end r.past ≡ None = c.laws.ensures.unended (moved_open t r e.setting e.past c.requires.going) in
-    claim_free c.dead_nodes_stay_dead.ensures c.chosen_leaves_are_held.ensures r n c.in-Some.node c.laws.ensures.legal c.apply.ensures.setting c.apply.ensures.past unended (between_moved t r 1 e.setting e.past c.requires.between) c.in-Some.ensures.claimable
+    let n = c.claim.new.table in
+    let desk = c.args.desk.now in
+    trail_own n.setting n.past 1 desk (trail_later_on t.setting n.setting t.past n.past 1 desk c.claim.ensures.setting (record { added = record { by = 1; event = Claim c.in_ok-node.node } ∷ []; is = c.in_ok-node.ensures.past }) c.requires.trail)
+
+pub move_to-requires-clause-holds : goal.move_to-requires-clause-holds
+move_to-requires-clause-holds c =
+    let n = c.claim.new.table in
+    subst (λ w. Holds n.setting n.past w c.in_ok-node.node) (sym c.requires.trail.worker) c.in_ok-node.ensures.free.holds
+
+pub work_on-requires-clause-desk : goal.work_on-requires-clause-desk
+work_on-requires-clause-desk c =
+    let n = c.claim.new.table in
+    desk_at n.setting n.past c.args.desk.now.view.worker 1 c.in_ok-node.node c.move_to.new.self c.requires.trail.worker c.in_ok-move_to.ensures
 
 pub returns-clause-more : goal.returns-clause-more
 returns-clause-more c =
     let t = c.args.table.now in
-    let r = c.reserve.new.self in
-    let n = c.apply.new.self in
-    let claimed : rounds n.past ≡ rounds r.past + 0 = ap rounds c.apply.ensures.past in
-    let same : rounds n.past ≡ rounds t.past = omega (arith, claimed, ap rounds c.reserve.ensures.past) in
+    let n = c.claim.new.table in
+    let claimed : rounds n.past ≡ rounds t.past + 0 = ap rounds c.in_ok-node.ensures.past in
+    let same : rounds n.past ≡ rounds t.past = omega (arith, claimed) in
     subst (λ k. OnOk c.work_on.result (first_end c.work_on.new.table.past ≡ None → k < rounds c.work_on.new.table.past)) same c.work_on.ensures.more

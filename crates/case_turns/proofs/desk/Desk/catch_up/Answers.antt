@@ -1,11 +1,13 @@
 use Rattle.std.proofs.Common.{◌<◌, ◌∙◌, sym, subst, arith}
+use Rattle.std.specs.Prelude.{reverse}
 use Rattle.case_journal.specs.Journal.{nodes}
 use Rattle.case_journal.specs.Legal.{IsLegalJournal}
 use Rattle.case_journal.specs.Facts.{Holds}
 use Rattle.case_journal.specs.PlaceLaws.{claimed_within}
 use Rattle.case_queue.specs.Queues.{HasFirst, HasQueue}
 use Rattle.journal_laws.specs.Frame.{KeepsLeaf}
-use Rattle.case_turns.proofs.Desks.{queue_keeps, fewer_steps}
+use Rattle.case_view.specs.TrailLaws.{goes_from, trail_grown}
+use Rattle.case_turns.proofs.Desks.{queue_keeps, fewer_steps, trail_of}
 use Rattle.case_turns.proofs.desk.Desk.catch_up.Goals as goal
 
 pub sync-requires-clause-goes_on : goal.sync-requires-clause-goes_on
@@ -42,9 +44,15 @@ add_lines-requires-clause-first c =
 pub returns : goal.returns
 returns c =
     let t = c.args.table.now in
+    let desk = c.args.self.now in
+    let stands = c.in_ok-sync.ensures.stands in
     record {
-      stands = c.in_ok-sync.ensures.stands;
-      worker = c.in_ok-sync.ensures.worker;
+      stands = stands;
       node = c.in_ok-sync.ensures.node;
+      trail = record {
+        worker = c.in_ok-sync.ensures.worker;
+        trail = trail_grown t.setting t.past (reverse desk.marks) desk.view c.sync.new.self
+            (trail_of t.setting t.past desk.view.worker desk.view.node desk c.requires.desk).trail c.in_ok-sync.ensures.grows (goes_from t.setting t.past c.sync.new.self stands);
+      };
       queue = subst (λ n. HasQueue t.setting t.past n c.add_lines.new.queue) (c.node.ensures ∙ c.in_ok-sync.ensures.node) c.in_ok-add_lines.ensures;
     }

@@ -1,4 +1,0 @@
-pub mod Covering
-pub mod Filing
-pub mod Partners
-pub mod Working
