@@ -1,9 +1,8 @@
 -- Going back to what a view had at a mark.
-use Rattle.std.proofs.Common.{◌≡◌, ◌∙◌, ℕ, ◌<◌, List, ◌++◌, length, Option, Some, take, refl, sym, ap, subst, arith}
+use Rattle.std.proofs.Common.{◌≡◌, ◌∙◌, ℕ, ◌<◌, List, length, Option, Some, take, sym, ap, arith}
 use Rattle.std.specs.List.{slice_get}
 use Rattle.std.proofs.lemmas.Option.{slice_get_within}
 use Rattle.std.proofs.Math.Seq.{take-append_seam}
-use Rattle.spl_terms.specs.declared.clause.Clause.{Clause}
 use Rattle.dep_sets.specs.declared.deps.Assumption.{Assumption}
 use Rattle.spl_terms.specs.Lists.{numbered}
 use Rattle.case_journal.specs.ListLaws.{get_more}
@@ -11,7 +10,6 @@ use Rattle.clause_filing.specs.declared.filing.Entry.{Entry}
 use Rattle.case_view.specs.declared.kept.Kept.{Kept}
 use Rattle.case_view.specs.declared.kept.Case.{Case}
 use Rattle.case_view.specs.declared.kept.Mark.{Mark}
-use Rattle.case_view.specs.Views.{IsOrdered}
 use Rattle.case_view.specs.Caches.{AreFiled, AreUnderAll}
 use Rattle.case_view.specs.Marks.{Begins, HasGrown, IsMarkOf}
 

@@ -1,5 +1,5 @@
 -- A view goes on to a leaf below its own.
-use Rattle.std.proofs.Common.{◌≡◌, ℕ, ◌<◌, ◌++◌, ◌∷◌, [], List, true, eqb, inl, inr, sym, ◌∙◌, ap, subst}
+use Rattle.std.proofs.Common.{◌≡◌, ℕ, ◌<◌, ◌++◌, ◌∷◌, [], List, true, eqb, inl, inr, sym, ◌∙◌, subst}
 use Rattle.std.proofs.lemmas.Bool.{or_cases, eqb-true}
 use Rattle.case_journal.specs.declared.event.Entry.{Entry}
 use Rattle.case_journal.specs.Journal.{Setting, nodes}

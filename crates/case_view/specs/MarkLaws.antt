@@ -1,5 +1,5 @@
 -- Laws with their proofs, not definitions that a reader must believe: a view that grows twice has grown.
-use Rattle.std.proofs.Common.{◌≡◌, List, [], ◌++◌, sym, ap, ◌∙◌, refl, append_assoc}
+use Rattle.std.proofs.Common.{List, [], ◌++◌, sym, ap, ◌∙◌, refl, append_assoc}
 use Rattle.std.proofs.lemmas.List.{append-nil}
 use Rattle.case_view.specs.declared.kept.Case.{Case}
 use Rattle.case_view.specs.Marks.{Begins, HasGrown}

@@ -2,7 +2,7 @@
 -- off are covered.
 use Rattle.std.specs.Prelude.{fold}
 use Rattle.std.proofs.Common.{◌≡◌, ◌⊎◌, inl, inr, ℕ, zero, suc, ◌+◌, ◌-◌, ◌<◌, ◌≤◌, Bool, true, false, cond, not, ◌&&◌, ◌||◌, List, [], ◌∷◌, ◌++◌, length, Option, Some, None, option_map, refl, sym, ap, ◌∙◌, subst, arith}
-use Rattle.std.proofs.lemmas.Bool.{false≢true, eqb-true, and_parts, or_cases, or_right}
+use Rattle.std.proofs.lemmas.Bool.{false≢true, and_parts, or_cases, or_right}
 use Rattle.std.proofs.lemmas.List.{map-append}
 use Rattle.spl_terms.specs.declared.clause.Part.{Part}
 use Rattle.spl_terms.specs.declared.clause.Clause.{Clause}
@@ -11,15 +11,15 @@ use Rattle.spl_truth.specs.Picking.{better, preferred, is_fifth}
 use Rattle.proof_steps.specs.declared.step.Line.{Line}
 use Rattle.proof_steps.specs.Steps.{numbered, resolution, from_two, of_two}
 use Rattle.proof_steps.specs.Checked.{resolution_of_lines, stated}
-use Rattle.proof_steps.specs.Covering.{IsSubsumedByOne, IsCoveredBy, AreCoveredBy}
+use Rattle.proof_steps.specs.Covering.{IsCoveredBy, AreCoveredBy}
 use Rattle.case_journal.specs.declared.event.Entry.{Entry}
 use Rattle.case_journal.specs.declared.event.Event.{Event}
-use Rattle.case_journal.specs.declared.event.Event.TheVariants.{Choose, Publish, Split, Activate}
+use Rattle.case_journal.specs.declared.event.Event.TheVariants.{Activate}
 use Rattle.case_journal.specs.Journal.{Setting, ledger, lines_of, nodes, nodes_of, steps}
 use Rattle.case_journal.specs.Paths.{stem, on_path}
-use Rattle.case_journal.specs.Facts.{listed, lists, kept, worked, split, chosen, chosen_by, activates, is_number}
+use Rattle.case_journal.specs.Facts.{listed, lists, kept, worked, split, chosen, activates, is_number}
 use Rattle.case_journal.specs.Picking.{is_passive, passing, passive, pick_at, choices, weighed}
-use Rattle.case_journal.specs.Legal.{IsAsked, IsLegalJournal, IsPartner, IsPair, IsListedAs, IsListed}
+use Rattle.case_journal.specs.Legal.{IsAsked, IsLegalJournal, IsPartner, IsPair, IsListed}
 use Rattle.case_journal.specs.ListedLaws.{listed_within}
 use Rattle.case_journal.specs.FactLaws.{number_is}
 use Rattle.case_journal.specs.ListLaws.{get_more, get_left}

@@ -1,21 +1,19 @@
 -- A table whose proving ended by a contradiction has a line that states one.
-use Rattle.std.proofs.Common.{◌≡◌, inl, inr, ℕ, zero, suc, ◌+◌, ◌-◌, ◌≤◌, Bool, true, false, ◌&&◌, ◌||◌, List, [], ◌∷◌, ◌++◌, length, Option, Some, None, refl, sym, ◌∙◌, subst, arith}
+use Rattle.std.proofs.Common.{◌≡◌, inl, inr, ℕ, zero, suc, ◌+◌, ◌-◌, ◌≤◌, Bool, true, false, ◌||◌, List, [], ◌∷◌, ◌++◌, length, Option, Some, None, refl, sym, ◌∙◌, subst, arith}
 use Rattle.std.specs.Prelude.{IsSomeAnd}
 use Rattle.std.specs.List.{slice_get, list_any}
 use Rattle.std.proofs.lemmas.Bool.{false≢true}
 use Rattle.spl_terms.specs.declared.atom.Atom.{Atom}
 use Rattle.spl_terms.specs.declared.clause.Clause.{Clause}
-use Rattle.spl_terms.specs.Clauses.{no_atoms, is_empty, in_order, IsEmpty}
-use Rattle.dep_sets.specs.declared.deps.Assumption.{Assumption}
-use Rattle.proof_steps.specs.declared.step.Statement.{Statement}
+use Rattle.spl_terms.specs.Clauses.{is_empty, in_order, IsEmpty}
 use Rattle.proof_steps.specs.declared.step.Line.{Line}
 use Rattle.proof_steps.specs.Checked.{IsContradiction}
 use Rattle.case_journal.specs.declared.event.Entry.{Entry}
-use Rattle.case_journal.specs.Journal.{Setting, ledger, lines_of, input_line, input_lines, last_line, steps}
+use Rattle.case_journal.specs.Journal.{Setting, ledger, lines_of, input_line, input_lines, last_line}
 use Rattle.split_tree.specs.State.{State}
 use Rattle.case_journal.specs.FactLaws.{empty_is, contradiction_is}
 use Rattle.case_journal.specs.ListLaws.{get_more, get_right}
-use Rattle.case_journal.specs.Ending.{no_assumptions, is_contradiction, states_contradiction, ends_contradictory, has_empty}
+use Rattle.case_journal.specs.Ending.{states_contradiction, has_empty}
 use Rattle.proof_extract.specs.Contradictions.{IsContradictory}
 use Rattle.prover_top.specs.Endings.{IsContradicted}
 

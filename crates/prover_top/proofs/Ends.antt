@@ -9,7 +9,7 @@ use Rattle.case_journal.specs.declared.event.Event.{Event}
 use Rattle.case_journal.specs.declared.event.Event.TheVariants.{Claim, Choose, Publish, Split, Activate, Saturated, Spent, Big, Full, Stop}
 use Rattle.case_journal.specs.declared.event.End.{End}
 use Rattle.case_journal.specs.declared.event.End.TheVariants as ends
-use Rattle.case_journal.specs.Journal.{Setting, ledger, lines_of, nodes, nodes_of, steps}
+use Rattle.case_journal.specs.Journal.{Setting, ledger, nodes, steps}
 use Rattle.split_tree.specs.State.{State}
 use Rattle.case_journal.specs.Facts.{is_stop, kept}
 use Rattle.case_journal.specs.Ending.{end_by, or_else, first_end, has_empty, ends_contradictory, reason}

@@ -1,15 +1,9 @@
-use Rattle.std.proofs.Common.{◌≡◌, ◌∙◌, ◌≤◌, ℕ, true, List, [], sym, ap, subst}
+use Rattle.std.proofs.Common.{◌≡◌, ◌∙◌, ◌≤◌, ℕ, true, [], sym, subst}
 use Rattle.std.specs.Prelude.{MatchBool, MatchOption, reverse}
 use Rattle.case_journal.specs.Paths.{on_path}
 use Rattle.case_journal.specs.Facts.{Holds}
 use Rattle.case_journal.specs.PlaceLaws.{claimed_within}
 use Rattle.case_journal.specs.LeafLaws.{claimer_within}
-use Rattle.case_journal.specs.declared.event.Entry.{Entry}
-use Rattle.case_journal.specs.Journal.{Setting}
-use Rattle.case_view.specs.declared.kept.Case.{Case}
-use Rattle.case_view.specs.declared.kept.Mark.{Mark}
-use Rattle.case_view.specs.Views.{StandsFor}
-use Rattle.case_view.specs.Trails.{IsTrail}
 use Rattle.case_view.specs.TrailLaws.{goes_from, no_marks, trail_goes, with_mark}
 use Rattle.case_view.proofs.trail.move_to_held.Goals as goal
 
