@@ -1,5 +1,5 @@
 -- A live node that has a live child keeps it where an empty clause is published elsewhere.
-use Rattle.std.proofs.Common.{◌≡◌, ℕ, ◌+◌, ◌-◌, ◌<◌, inl, inr, true, false, eqb, List, [], ◌∷◌, Some, refl, sym, ◌∙◌, ap, arith}
+use Rattle.std.proofs.Common.{◌≡◌, ℕ, ◌+◌, ◌<◌, inl, inr, true, false, eqb, List, [], ◌∷◌, Some, refl, sym, ◌∙◌, ap, arith}
 use Rattle.std.proofs.lemmas.Bool.{or_cases, eqb-true, cases_Bool}
 use Rattle.spl_terms.specs.Clauses.{is_empty}
 use Rattle.proof_steps.specs.declared.step.Line.{Line}
@@ -9,7 +9,6 @@ use Rattle.case_journal.specs.declared.event.Event.TheVariants.{Publish}
 use Rattle.case_journal.specs.Journal.{Setting, nodes, steps}
 use Rattle.case_journal.specs.Paths.{on_path, branch, branch_to}
 use Rattle.case_journal.specs.Legal.{IsLegalJournal}
-use Rattle.case_journal.specs.Closing.{published}
 use Rattle.case_journal.specs.BranchLaws.{climbs}
 use Rattle.case_journal.specs.DependenceLaws.{child_some}
 use Rattle.backjump.specs.Cases.{IsSettledAt}

@@ -93,17 +93,24 @@ fn next_step(
     Ok(Some(Next { node, deps, event }))
 }
 
-/// The clause number after this one.
-fn next_number(number: u32) -> Result<u32, AllocError>
-    ensures { IfOk result (λ next. next ≡ number + 1) }
+/// The number of the last one of so many steps after this one.
+///
+/// # Errors
+///
+/// Where it would be no number of 32 bits, which is answered as want of memory.
+pub fn number_after(number: u32, count: usize) -> Result<u32, AllocError>
+    ensures { IfOk result (λ last. last ≡ number + count) }
 {
-    match number.checked_add(1) {
-        Some(next) => Ok(next),
+    if count > u32::MAX as usize {
+        return Err(AllocError);
+    }
+    match number.checked_add(count as u32) {
+        Some(last) => Ok(last),
         None => Err(AllocError),
     }
 }
 
-/// The publication of the chain, whose one line states the empty clause, and all case steps that follow.
+/// The publication of the chain, whose last line states the empty clause, and all case steps that follow.
 fn planned(
     alloc: Global,
     table: &Table,
@@ -118,9 +125,10 @@ fn planned(
         (Publish node chain false) events.items) }
 {
     table.laws();
-    let mut number = next_number(table.steps())?;
+    let mut number = number_after(table.steps(), chain.len())?;
     let mut at = node;
-    let mut deps = chain.as_slice()[0].stated.deps.copy()?;
+    let last = chain.len() - 1;
+    let mut deps = chain.as_slice()[last].stated.deps.copy()?;
     let put_off = false;
     let mut events = vec![in alloc;
         Event::Publish {
@@ -133,7 +141,7 @@ fn planned(
         let Some(next) = next_step(alloc, table, at, number, &deps)? else {
             return Ok(events);
         };
-        number = next_number(number)?;
+        number = number_after(number, 1)?;
         at = next.node;
         deps = next.deps;
         events.push(next.event)?;

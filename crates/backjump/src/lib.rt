@@ -5,5 +5,5 @@ mod case_step;
 mod closing;
 mod settling;
 
-pub use closing::close;
+pub use closing::{close, number_after};
 pub use settling::settle;

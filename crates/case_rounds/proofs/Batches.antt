@@ -1,17 +1,26 @@
 -- What was computed from a view is a batch over the journal for which it stands.
-use Rattle.std.proofs.Common.{◌≡◌, ◌⊎◌, inl, inr, ℕ, zero, suc, true, List, [], Option, Some, None, option_map, refl, sym, ◌∙◌, ap, subst, arith}
+use Rattle.std.proofs.Common.{◌≡◌, ◌⊎◌, inl, inr, ℕ, zero, suc, ◌≤◌, false, true, List, [], ◌∷◌, ◌++◌, map, Option, Some, None, option_map, refl, sym, ◌∙◌, ap, subst, arith}
+use Rattle.std.specs.List.{slice_get}
+use Rattle.std.proofs.lemmas.List.{length-map}
 use Rattle.std.proofs.lemmas.Option.{slice_get-map}
+use Rattle.dep_sets.specs.declared.deps.Assumption.{Assumption}
+use Rattle.spl_terms.specs.ListLaws.{numbered-within}
 use Rattle.spl_terms.specs.declared.clause.Part.{Part}
 use Rattle.spl_terms.specs.declared.clause.Clause.{Clause}
 use Rattle.proof_steps.specs.declared.step.Statement.{Statement}
 use Rattle.proof_steps.specs.declared.step.Line.{Line}
-use Rattle.clause_parts.specs.Parts.{parts_of}
+use Rattle.clause_parts.specs.Parts.{Parted, parts_of}
+use Rattle.clause_splitting.specs.Splitting.{AreSplitLines}
+use Rattle.proof_steps.specs.declared.step.Step.{Step}
+use Rattle.case_journal.specs.declared.event.Event.{Event}
+use Rattle.case_journal.specs.declared.event.Event.TheVariants.{Publish, Activate, Big}
+use Rattle.case_journal.specs.Paths.{owner}
 use Rattle.spl_terms.specs.Lists.{numbered}
 use Rattle.proof_steps.specs.Steps.{of_two, from_two, resolution, conclude}
 use Rattle.proof_steps.specs.Checked.{stated, resolution_of_lines}
 use Rattle.proof_steps.specs.Covering.{IsVariant, IsCoveredBy}
 use Rattle.case_journal.specs.declared.event.Entry.{Entry}
-use Rattle.case_journal.specs.Journal.{Setting, ledger, splits}
+use Rattle.case_journal.specs.Journal.{Setting, ledger, lines_of, splits, steps}
 use Rattle.case_journal.specs.Facts.{listed, worked, chosen, Holds, before_choice}
 use Rattle.case_journal.specs.Legal.{IsLegalJournal, IsPremise, IsListed, IsTooLarge, IsLegalBig}
 use Rattle.case_journal.specs.DependenceLaws.{before_listed, line_of_stated}
@@ -21,9 +30,24 @@ use Rattle.case_view.specs.declared.kept.Kept.{Kept}
 use Rattle.case_view.specs.declared.kept.Case.{Case}
 use Rattle.case_rounds.specs.declared.round.Finish.{Finish}
 use Rattle.case_rounds.specs.declared.round.Finish.TheVariants as finishes
-use Rattle.case_view.specs.Views.{keep, kept_line, IsIn, conclusion_of, HasClauses}
-use Rattle.case_rounds.specs.Rounds.{IsLarge, IsPremiseOf, IsPairOf, AreLinesOf, IsCoveredIn, IsBigOf, IsWorkedOffOf, IsFinishOf}
-use Rattle.case_rounds.specs.Appending.{IsFinishAt, CanAppend}
+use Rattle.case_view.specs.Views.{keep, kept_line, owner_on, path_nodes, path_sides, IsCaseOf, IsIn, conclusion_of, HasClauses}
+use Rattle.case_rounds.specs.declared.round.Batch.{Batch}
+use Rattle.case_rounds.specs.Rounds.{IsLarge, IsPremiseOf, IsPairOf, IsLineOf, AreLinesOf, IsCoveredIn, IsBigOf, IsWorkedOffOf, IsFinishOf}
+use Rattle.case_rounds.specs.Events.{publication_of, AreLastOf, AreEventsOf, IsBatchOf, AreOver, AreAllOver}
+use Rattle.case_rounds.specs.Appending.{IsFinishAt, publication_at, AreLastAt, IsReady}
+use Rattle.case_rounds.specs.InLaws.{in_either, in_one, in_mapped}
+
+two_parents : (m n base : ℕ) → m ≤ base → n ≤ base → (j x : ℕ) → slice_get (m ∷ n ∷ []) j ≡ Some x → x ≤ base
+two_parents m n base h k zero x e = let same : m ≡ x = cc in omega (arith, h, same)
+two_parents m n base h k (suc zero) x e = let same : n ≡ x = cc in omega (arith, k, same)
+two_parents m n base h k (suc (suc j)) x e = absurd (cc)
+
+one_parent : (m base : ℕ) → m ≤ base → (j x : ℕ) → slice_get (m ∷ []) j ≡ Some x → x ≤ base
+one_parent m base h zero x e = let same : m ≡ x = cc in omega (arith, h, same)
+one_parent m base h (suc j) x e = absurd (cc)
+
+none_over : (base : ℕ) → AreOver base []
+none_over base k l e = absurd (cc)
 
 stated_numbered : (lines : List Line) (n : ℕ) → numbered (stated lines) n ≡ option_map (λ l. l.stated) (numbered lines n)
 stated_numbered lines zero = refl
@@ -206,17 +230,65 @@ module _ (s : Setting) (past : List Entry) (v : Case) (given : Kept) (is_given :
       record { number = given.number; is = chosen_is; line = g.0; found = g.1; parted = ap (λ (x : Statement). parts_of x.clause) g.2 ∙ (ap (λ (k : Kept). parts_of k.stated.clause) (same_given h.given h.is_given) ∙ h.parted) })
   finish_of_view kept lines finishes.Activate h = worked_off_at lines h
 
+  -- ---- the steps of the batch follow from those of the ledger
+
+  premise_within : (k : Kept) → IsPremiseOf v k → k.number ≤ steps s past
+  premise_within k h = omega (arith, (numbered-within (stated (ledger s past)) k.number k.stated (premise_line k h)).1, length-map (ledger s past) (λ (l : Line). l.stated))
+
+  line_over : (l : Line) → IsLineOf v l → AreOver (steps s past) (l ∷ [])
+  line_over l h zero x e j n at =
+      (let same : l ≡ x = cc in
+      two_parents h.first.number h.second.number (steps s past) (premise_within h.first h.pair.left) (premise_within h.second h.pair.right) j n
+      (ap (λ (y : Step). slice_get y.parents j) (sym h.inference.step) ∙ (ap (λ (y : Line). slice_get y.step.parents j) same ∙ at)))
+  line_over l h (suc k) x e j n at = absurd (cc)
+
+  split_over : (parts : Parted) (lines : List Line) → AreSplitLines given.number parts lines → AreOver (steps s past) lines
+  split_over parts lines h k l at j n e = one_parent given.number (steps s past) (premise_within given (inl is_given)) j n (ap (λ (x : Line). slice_get x.step.parents j) (sym (h.each k l at).is) ∙ e)
+
+  last_over : (finish : Finish) (last : List Event) → AreLastOf v finish last → (ev : Event) → IsIn last ev → AreOver (steps s past) (lines_of ev)
+  last_over finishes.Closed last h ev at = let none : None ≡ Some ev = ap (λ xs. slice_get xs at.0) (sym h) ∙ at.1 in absurd (cc)
+  last_over (finishes.Big partner symbols) last h ev at = subst (λ x. AreOver (steps s past) (lines_of x)) (in_one (Big v.node partner symbols) ev (subst (λ xs. IsIn xs ev) h at)) (none_over (steps s past))
+  last_over (finishes.Split parts) last h ev at =
+      (let is = sym h.splits.is ∙ in_one h.event ev (subst (λ xs. IsIn xs ev) h.is at) in
+      subst (λ x. AreOver (steps s past) (lines_of x)) is (split_over parts h.splits.lines (subst (λ (k : Kept). AreSplitLines k.number parts h.splits.lines) (sym (same_given h.given h.is_given)) h.splits.are)))
+  last_over finishes.Activate last h ev at = subst (λ x. AreOver (steps s past) (lines_of x)) (in_one (Activate v.node) ev (subst (λ xs. IsIn xs ev) h at)) (none_over (steps s past))
+
+  all_over : (lines : List Line) (finish : Finish) (events : List Event) → AreLinesOf v lines → AreEventsOf v lines finish events → AreAllOver (steps s past) events
+  all_over lines finish events are h k ev at = elim (in_either (map (publication_of v) lines) h.last ev (k, ap (λ xs. slice_get xs k) (sym h.are) ∙ at)) [
+    | inl published ↦ (let r = in_mapped (publication_of v) lines ev published in subst (λ x. AreOver (steps s past) (lines_of x)) r.2 (line_over r.0 (are.each r.0 r.1)))
+    | inr last ↦ last_over finish h.last h.finishes ev last
+  ]
+
   -- ---- the whole batch
 
   -- what is worked off was listed when the clause was chosen, and is listed still
   worked_kept : IsLegalJournal s past → IsSinceChoice s past v.worker v.node → (n : ℕ) → worked past v.node n ≡ true → listed s past v.node n ≡ true
   worked_kept legal since n on = before_listed s past legal v.node n (since.partners n on).kept
 
-  pub can_append : IsLegalJournal s past → IsSinceChoice s past v.worker v.node → ((lines : List Line) → IsBatch s past v.worker v.node lines → IsUnderWay s past past v.worker v.node lines 0) → (lines : List Line) (finish : Finish) → AreLinesOf v lines → IsFinishOf s.limits.splits v lines finish
-      → CanAppend s past v.worker v.node lines finish
-  can_append legal since starts lines finish h ends = record {
-    start = past;
-    legal = legal;
-    way = starts lines (batch_of_view since lines h);
-    ends = finish_of_view (worked_kept legal since) lines finish ends;
+  last_at : (finish : Finish) (last : List Event) → AreLastOf v finish last → AreLastAt past v.node finish last
+  last_at finishes.Closed last h = h
+  last_at (finishes.Big partner symbols) last h = h
+  last_at (finishes.Split parts) last h = record {
+    clause = h.given.number;
+    chosen = chosen_is ∙ ap (λ (k : Kept). Some k.number) (same_given h.given h.is_given);
+    event = h.event;
+    splits = h.splits;
+    is = h.is;
+  }
+  last_at finishes.Activate last h = h
+
+  publication_is : IsCaseOf s past v → ((deps : List Assumption) → owner past deps v.node ≡ owner_on (path_nodes past v.node) (path_sides past v.node) deps) → (l : Line) → publication_of v l ≡ publication_at past v.node l
+  publication_is is owners l = ap (λ n. Publish n (l ∷ []) false) ((λ i. owner_on (is.nodes i) (is.path i) l.stated.deps) ∙ sym (owners l.stated.deps))
+
+  pub ready : IsCaseOf s past v → ((deps : List Assumption) → owner past deps v.node ≡ owner_on (path_nodes past v.node) (path_sides past v.node) deps) → IsLegalJournal s past → IsSinceChoice s past v.worker v.node
+      → ((lines : List Line) → IsBatch s past v.worker v.node lines → IsUnderWay s past past v.worker v.node lines 0) → (b : Batch) → IsBatchOf s.limits.splits v b → IsReady s past v.worker v.node b
+  ready is owners legal since starts b h = record {
+    lines = h.lines;
+    finish = h.finish;
+    can = record { start = past; legal = legal; way = starts h.lines (batch_of_view since h.lines h.are); ends = finish_of_view (worked_kept legal since) h.lines h.finish h.ends };
+    last = h.events.last;
+    finishes = last_at h.finish h.events.last h.events.finishes;
+    events = h.events.are ∙ (λ i. map (λ l. publication_is is owners l i) h.lines ++ h.events.last);
+    base = omega (arith, h.base, is.base);
+    over = subst (λ n. AreAllOver n b.events) (sym (h.base ∙ is.base)) (all_over h.lines h.finish b.events h.are h.events);
   }

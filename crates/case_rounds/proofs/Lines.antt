@@ -20,7 +20,8 @@ use Rattle.case_rounds.specs.declared.halt.Halt.TheVariants as halts
 use Rattle.case_view.specs.Views.{IsIn, IsOrdered, IsPartnerOf}
 use Rattle.case_rounds.specs.Rounds.{Extends, IsInference, HasAll, IsStopOf, IsPremiseOf, IsPairOf, IsLineOf, AreLinesOf, IsRound, IsAmong, IsCoveredIn, Covers, IsHaltOf}
 use Rattle.case_rounds.proofs.Places.{made}
-use Rattle.case_rounds.proofs.Rows.{in_right, in_either, in_one, stated_in}
+use Rattle.case_rounds.specs.InLaws.{in_either, in_one}
+use Rattle.case_rounds.proofs.Rows.{in_right, stated_in}
 
 -- ---- extending
 

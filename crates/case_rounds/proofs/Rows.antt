@@ -7,6 +7,7 @@ use Rattle.std.proofs.lemmas.List.{append-nil}
 use Rattle.spl_terms.specs.declared.clause.Part.{Part}
 use Rattle.spl_terms.specs.declared.clause.Part.TheVariants.{Constraint, Antecedent, Succedent}
 use Rattle.spl_terms.specs.Clauses.{part_of, clause_symbols}
+use Rattle.case_rounds.specs.InLaws.{in_either, in_one}
 use Rattle.proof_steps.specs.declared.step.Statement.{Statement}
 use Rattle.proof_steps.specs.declared.step.Line.{Line}
 use Rattle.proof_steps.specs.Steps.{is_negative}
@@ -24,15 +25,6 @@ in_left xs ys x h = (h.0, get_more xs ys h.0 x h.1)
 
 pub in_right : {A : Type 0} (xs ys : List A) (x : A) → IsIn ys x → IsIn (xs ++ ys) x
 in_right xs ys x h = (length xs + h.0, get_right xs ys h.0 ∙ h.1)
-
-pub in_either : {A : Type 0} (xs ys : List A) (x : A) → IsIn (xs ++ ys) x → IsIn xs x ⊎ IsIn ys x
-in_either [] ys x h = inr h
-in_either (z ∷ zs) ys x (zero, at) = inl (0, at)
-in_either (z ∷ zs) ys x (suc k, at) = elim (in_either zs ys x (k, at)) [ inl h ↦ inl (suc h.0, h.1) | inr h ↦ inr h ]
-
-pub in_one : {A : Type 0} (y x : A) → IsIn (y ∷ []) x → y ≡ x
-in_one y x (zero, at) = let q : y ≡ x = cc in q
-in_one y x (suc k, at) = absurd (cc)
 
 pub stated_in : (lines : List Line) (l : Line) → IsIn lines l → IsStated lines l.stated.clause
 stated_in lines l h = record { place = h.0; line = l; found = h.1; is = refl }
@@ -125,3 +117,7 @@ pub index_here : {A : Type 0} (xs : List A) (k : ℕ) (d : A) → k < length xs 
 index_here [] k d h = absurd (omega (arith, h))
 index_here (y ∷ xs) zero d h = refl
 index_here (y ∷ xs) (suc k) d h = index_here xs k d (omega (arith, h))
+
+pub none_left : (xs : List Line) → length xs ≡ 0 → xs ≡ []
+none_left [] e = refl
+none_left (x ∷ xs) e = absurd (omega (arith, e))

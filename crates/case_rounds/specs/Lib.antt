@@ -1,3 +1,5 @@
 pub mod Rounds
 pub mod Appending
 pub mod Filed
+pub mod Events
+pub mod InLaws

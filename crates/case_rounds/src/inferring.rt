@@ -12,22 +12,23 @@ use spl_terms::{Clause, Items, Part, PushError};
 use spl_truth::Subst;
 use std::alloc::{AllocError, Global};
 
-/// The step that resolves two lines without variables.
-fn ground_resolve(
-    alloc: Global,
+/// Two literals: that of the succedent of a first clause, and one of the other parts of a second clause, with places from 0.
+#[derive(Clone, Copy, Debug)]
+pub struct LiteralPair {
     i: u32,
     part: Part,
     j: u32,
-    m: u32,
-    n: u32,
-) -> Result<Step, AllocError>
-    ensures { IfOk result (λ s. s ≡ ground_resolve i part j m n) }
+}
+
+/// The step that resolves two lines without variables.
+fn ground_resolve(alloc: Global, at: LiteralPair, m: u32, n: u32) -> Result<Step, AllocError>
+    ensures { IfOk result (λ s. s ≡ ground_resolve at.i at.part at.j m n) }
 {
     Ok(Step {
         rule: Rule::Resolve {
-            i,
-            part,
-            j,
+            i: at.i,
+            part: at.part,
+            j: at.j,
             s: Subst {
                 terms: Items::new(alloc),
             },
@@ -55,16 +56,14 @@ fn push_line(
     alloc: Global,
     p: &Kept,
     q: &Kept,
-    i: u32,
-    part: Part,
-    j: u32,
+    at: LiteralPair,
     stated: Statement,
     lines: &mut Items<Line>,
 ) -> Result<(), AllocError>
-    ensures { OnOk result (lines.new
-        ≡ lines.old ++ record { step = ground_resolve i part j p.now.number q.now.number; stated = stated } ∷ []) }
+    ensures { OnOk result (lines.new ≡ lines.old
+        ++ record { step = ground_resolve at.i at.part at.j p.now.number q.now.number; stated = stated } ∷ []) }
 {
-    let step = ground_resolve(alloc, i, part, j, p.number, q.number)?;
+    let step = ground_resolve(alloc, at, p.number, q.number)?;
     lines.push(Line { step, stated })?;
     Ok(())
 }
@@ -75,18 +74,16 @@ fn infer_at(
     partner: u32,
     p: &Kept,
     q: &Kept,
-    i: u32,
-    part: Part,
-    j: u32,
+    at: LiteralPair,
     lines: &mut Items<Line>,
 ) -> Result<(), Halt>
     ensures infers { OnOk result (Infers p.now q.now lines.old lines.new) }
-    ensures has { OnOk result (HasAt lines.new p.now q.now i part j) }
+    ensures has { OnOk result (HasAt lines.new p.now q.now at.i at.part at.j) }
     ensures stop { IfErr result (IsStopOf p.now q.now partner) }
 {
-    match resolve_statements(alloc, i, part, j, &p.stated, &q.stated) {
+    match resolve_statements(alloc, at.i, at.part, at.j, &p.stated, &q.stated) {
         Ok(Some(stated)) => {
-            push_line(alloc, p, q, i, part, j, stated, lines)?;
+            push_line(alloc, p, q, at, stated, lines)?;
             Ok(())
         }
         Ok(None) => Ok(()),
@@ -111,7 +108,7 @@ fn infer_row(
 {
     let count = count_of(&q.stated.clause, part)?;
     for j in 0..count {
-        infer_at(alloc, partner, p, q, i, part, j, lines)?;
+        infer_at(alloc, partner, p, q, LiteralPair { i, part, j }, lines)?;
     }
     Ok(())
 }

@@ -13,7 +13,8 @@ use Rattle.case_journal.specs.Journal.{Setting, ledger, nodes, rounds}
 use Rattle.case_journal.specs.Paths.{is_leaf}
 use Rattle.case_journal.specs.Facts.{chosen, Holds, IsLive, cost_of, has_stopped, is_stop}
 use Rattle.case_journal.specs.Picking.{pick_at}
-use Rattle.case_journal.specs.Ending.{first_end, or_else, end_by, reason}
+use Rattle.case_journal.specs.Ending.{first_end, has_empty, or_else, end_by, reason}
+use Rattle.case_journal.specs.declared.event.End.TheVariants as ends
 use Rattle.case_journal.specs.Legal.{IsLegal, IsLegalJournal, IsClaimable, IsSettled}
 use Rattle.case_journal.specs.LeafLaws.{claimer_within}
 use Rattle.case_journal.specs.BoundLaws.{rounds_bound}
@@ -180,3 +181,13 @@ not_stopped (x ∷ past) w e =
 
 pub stop_cost : (past : List Entry) (w spare : ℕ) → first_end past ≡ None → cost_of past w Stop ≤ spare
 stop_cost past w spare e = let free : cost_of past w Stop ≡ 0 = ap (λ b. if not b then 0 else 1) (not_stopped past w e) in omega (arith, free)
+
+-- ---- the input
+
+-- while proving goes on, the input has no empty clause
+pub open_input : (s : Setting) (past : List Entry) → reason s past ≡ None → has_empty s.input ≡ false
+open_input s past e = by_test (has_empty s.input) e
+  where
+    by_test : (b : Bool) → (if b then Some ends.Proved else first_end past) ≡ None → b ≡ false
+    by_test true h = absurd (cc)
+    by_test false h = refl

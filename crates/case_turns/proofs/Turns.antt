@@ -1,47 +1,31 @@
 -- One line of a batch after another.
-use Rattle.std.proofs.Common.{◌≡◌, ◌⊎◌, inl, inr, ℕ, zero, suc, ◌+◌, ◌-◌, ◌<◌, true, false, not, ◌&&◌, eqb, eq-eqb, Bool, List, [], ◌∷◌, ◌++◌, length, Option, Some, None, refl, sym, ◌∙◌, ap, subst, arith, length-append, append_assoc}
-use Rattle.std.specs.Prelude.{IsSomeAnd, OnOk, IfOk, Result, Ok, Err}
+use Rattle.std.proofs.Common.{◌≡◌, inl, inr, ℕ, suc, ◌+◌, ◌<◌, true, false, not, ◌&&◌, eqb, eq-eqb, Bool, List, [], ◌∷◌, ◌++◌, length, Option, Some, None, refl, sym, ◌∙◌, ap, subst, arith, append_assoc}
+use Rattle.std.specs.Prelude.{OnOk, IfOk, Result, Ok, Err}
 use Rattle.std.specs.List.{slice_get}
 use Rattle.std.proofs.lemmas.Bool.{cases_Bool, cond-true, cond-false}
-use Rattle.std.proofs.lemmas.List.{append-nil, take_all}
+use Rattle.std.proofs.lemmas.List.{append-nil}
 use Rattle.spl_terms.specs.Clauses.{is_empty, no_atoms, IsEmpty}
 use Rattle.spl_terms.specs.declared.clause.Clause.{Clause}
 use Rattle.proof_steps.specs.declared.step.Line.{Line}
-use Rattle.clause_parts.specs.Parts.{Parted}
 use Rattle.spl_terms.specs.Lists.{numbered}
 use Rattle.case_journal.specs.declared.event.Entry.{Entry}
-use Rattle.case_journal.specs.declared.event.Event.TheVariants.{Split, Activate, Big}
+use Rattle.case_journal.specs.declared.event.Event.TheVariants.{Split, Activate}
 use Rattle.split_tree.specs.State.{State}
-use Rattle.case_journal.specs.Journal.{Setting, ledger, nodes, last_line}
+use Rattle.case_journal.specs.Journal.{Setting, ledger, nodes}
 use Rattle.case_journal.specs.Paths.{owner, is_leaf}
 use Rattle.case_journal.specs.Facts.{chosen, claimed, claimed_by, Holds, IsDead, IsLive}
 use Rattle.case_journal.specs.Ending.{first_end, or_else}
-use Rattle.case_journal.specs.Legal.{IsLegal, IsLegalJournal, IsLegalBig, IsListed, IsSettled}
+use Rattle.case_journal.specs.Legal.{IsLegalJournal, IsListed, IsSettled}
 use Rattle.case_journal.specs.ListLaws.{get_right}
 use Rattle.case_journal.specs.PlaceLaws.{claimed_within}
-use Rattle.case_journal.specs.LedgerLaws.{numbered_more}
 use Rattle.backjump.specs.Cases.{OnlyCloses, IsCaseEntry}
-use Rattle.journal_laws.specs.Frame.{StillHolds}
-use Rattle.journal_laws.specs.Batches.{publication, newest_first, IsUnderWay, IsWorkedOff}
-use Rattle.case_rounds.specs.declared.round.Finish.{Finish}
-use Rattle.case_rounds.specs.declared.round.Finish.TheVariants as finishes
-use Rattle.case_turns.specs.declared.appending.Gone.{Gone}
-use Rattle.case_turns.specs.declared.appending.Gone.TheVariants as gones
-use Rattle.case_view.specs.Views.{IsIn}
-use Rattle.case_rounds.specs.Appending.{IsPartedAt, IsFinishAt, CanAppend}
-use Rattle.case_turns.specs.Turns.{Continues, AllPublished, IsPublished, AreGone, IsGone, IsFree}
+use Rattle.journal_laws.specs.Batches.{publication}
+use Rattle.case_turns.specs.Turns.{Continues, IsFree}
 
-pub line_at : (lines before rest : List Line) (l : Line) → lines ≡ before ++ l ∷ rest → slice_get lines (length before) ≡ Some l
-line_at lines before rest l e =
+pub item_at : {A : Type 0} (items before rest : List A) (x : A) → items ≡ before ++ x ∷ rest → slice_get items (length before) ≡ Some x
+item_at items before rest x e =
     let z : length before ≡ length before + 0 = omega arith in
-    ap (λ xs. slice_get xs (length before)) e ∙ (ap (slice_get (before ++ l ∷ rest)) z ∙ get_right before (l ∷ rest) 0)
-
-pub published_more : (s : Setting) (start old new : List Entry) (w m : ℕ) (lines before rest : List Line) (l : Line) → new ≡ publication w (owner old l.stated.deps m) l ∷ old
-    → IsUnderWay s start (publication w (owner old l.stated.deps m) l ∷ old) w m lines (suc (length before)) → IsUnderWay s start new w m lines (length (before ++ l ∷ []))
-published_more s start old new w m lines before rest l is h =
-    let n : suc (length before) ≡ length (before ++ l ∷ []) = omega (arith, length-append before (l ∷ [])) in
-    subst (IsUnderWay s start new w m lines) n
-    (subst (λ p. IsUnderWay s start p w m lines (suc (length before))) (sym is) h)
+    ap (λ xs. slice_get xs (length before)) e ∙ (ap (slice_get (before ++ x ∷ rest)) z ∙ get_right before (x ∷ rest) 0)
 
 -- ---- where the worker has left its leaf
 
@@ -104,50 +88,6 @@ split_idle s old new w m lines put_off h is n g =
     let q : m ≡ n = cc in
     no_leaf (eqb m n) (is_leaf old n) (eq-eqb m n q) k.leaf
 
--- ---- once all lines are published
-
-pub way_of : (old new : State) (w m : ℕ) (lines : List Line) (finish : Finish) (can : CanAppend old.setting old.past w m lines finish) → AllPublished old new w m lines → new.setting ≡ old.setting → StillHolds old.setting can.start new.past w m (newest_first lines [])
-way_of old new w m lines finish can all e =
-    let u = all.way can.start can.way in
-    subst (λ s. StillHolds s can.start new.past w m (newest_first lines [])) e
-    (subst (λ ls. StillHolds new.setting can.start new.past w m (newest_first ls [])) (take_all (length lines) lines (omega arith)) u.still)
-
--- what is appended at the end may be, by a law of what finishes a round
-pub big_legal : (old new : State) (w m partner symbols : ℕ) (lines : List Line) (finish : Finish) → finish ≡ finishes.Big partner symbols → (can : CanAppend old.setting old.past w m lines finish) → AllPublished old new w m lines → new.setting ≡ old.setting → IsLegalJournal new.setting new.past
-    → ((own : List Clause) → IsLegalJournal old.setting can.start → IsLegalBig old.setting can.start w m partner symbols → first_end new.past ≡ None → IsLegalJournal old.setting new.past → StillHolds old.setting can.start new.past w m own → IsLegal old.setting new.past w (Big m partner symbols))
-    → IsLegal new.setting new.past w (Big m partner symbols)
-big_legal old new w m partner symbols lines finish is can all e legal law =
-    let s = old.setting in
-    let ends = subst (IsFinishAt s can.start w m lines) is can.ends in
-    subst (λ x. IsLegal x new.past w (Big m partner symbols)) (sym e)
-    (law (newest_first lines []) can.legal ends all.unended (subst (λ x. IsLegalJournal x new.past) e legal) (way_of old new w m lines finish can all e))
-
-pub activate_legal : (old new : State) (w m : ℕ) (lines : List Line) (finish : Finish) → finish ≡ finishes.Activate → (can : CanAppend old.setting old.past w m lines finish) → AllPublished old new w m lines → new.setting ≡ old.setting → IsLegalJournal new.setting new.past
-    → (IsLegalJournal old.setting can.start → m < nodes can.start → IsWorkedOff old.setting can.start w m lines → first_end new.past ≡ None → IsLegalJournal old.setting new.past → StillHolds old.setting can.start new.past w m (newest_first lines []) → IsLegal old.setting new.past w (Activate m))
-    → IsLegal new.setting new.past w (Activate m)
-activate_legal old new w m lines finish is can all e legal law =
-    let s = old.setting in
-    let ends = subst (IsFinishAt s can.start w m lines) is can.ends in
-    let there = claimed_within s can.start can.legal w m can.way.batch.holds.claims in
-    subst (λ x. IsLegal x new.past w (Activate m)) (sym e)
-    (law can.legal there ends all.unended (subst (λ x. IsLegalJournal x new.past) e legal) (way_of old new w m lines finish can all e))
-
-pub parted_now : (old new : State) (w m : ℕ) (parts : Parted) (lines : List Line) (finish : Finish) → finish ≡ finishes.Split parts → CanAppend old.setting old.past w m lines finish → AllPublished old new w m lines → new.setting ≡ old.setting → IsPartedAt new.setting new.past m parts
-parted_now old new w m parts lines finish is can all e =
-    let s = old.setting in
-    let p = subst (IsFinishAt s can.start w m lines) is can.ends in
-    let h = way_of old new w m lines finish can all e in
-    subst (λ x. IsPartedAt x new.past m parts) (sym e) (record {
-      number = p.number;
-      is = h.chosen ∙ p.is;
-      line = p.line;
-      found = ap (λ ls. numbered ls p.number) h.ledger ∙ numbered_more (ledger s can.start) h.lines p.number p.line p.found;
-      parted = p.parted;
-    })
-
-pub holds_now : (old new : State) (w m : ℕ) (lines : List Line) (finish : Finish) → CanAppend old.setting old.past w m lines finish → AllPublished old new w m lines → new.setting ≡ old.setting → Holds new.setting new.past w m
-holds_now old new w m lines finish can all e = subst (λ s. Holds s new.past w m) (sym e) (way_of old new w m lines finish can all e).holds
-
 -- ---- after the activation
 
 live_quiet : (s : Setting) (past : List Entry) (w m n : ℕ) → IsLive s past n → IsLive s (record { by = w; event = Activate m } ∷ past) n
@@ -174,26 +114,6 @@ activated_now stays old new w m legal h settled unended e f =
     subst (λ x. IsFree (record { setting = x; past = new.past; spare_events = new.spare_events; spare_steps = new.spare_steps }) w m) (sym e)
     (subst (λ x. IsFree (record { setting = old.setting; past = x; spare_events = new.spare_events; spare_steps = new.spare_steps }) w m) p a)
 
--- ---- answers of a match
-
-pub published_told : (old new : State) (w m : ℕ) (l : Line) (g : Gone) → g ≡ gones.Published → IsGone old new w m l g → IsPublished old new w m l
-published_told old new w m l g is h = subst (IsGone old new w m l) is h
-
-pub all_told : (old new : State) (w m : ℕ) (lines : List Line) (g : Gone) → g ≡ gones.Published → AreGone old new w m lines g → AllPublished old new w m lines
-all_told old new w m lines g is h = subst (AreGone old new w m lines) is h
-
--- the last line is none that states the empty clause
-pub not_closed : (lines : List Line) → ((l : Line) → IsIn lines l → is_empty l.stated.clause ≡ false) → IsSomeAnd (last_line lines) (λ l. is_empty l.stated.clause ≡ true) → ⊥
-not_closed lines full last = go (last_line lines) refl last
-  where
-    go : (o : Option Line) → last_line lines ≡ o → IsSomeAnd o (λ l. is_empty l.stated.clause ≡ true) → ⊥
-    go None e h = h
-    go (Some l) e h = (let x : true ≡ false = sym h ∙ full l (length lines - 1, e) in absurd (cc))
-
-pub none_left : (xs : List Line) → length xs ≡ 0 → xs ≡ []
-none_left [] e = refl
-none_left (x ∷ xs) e = absurd (omega (arith, e))
-
 -- ---- more events
 
 pub continues_one : (old new : List Entry) (e : Entry) → new ≡ e ∷ old → Continues old new
@@ -205,16 +125,7 @@ continues_more a b c f g = record { added = g.added ++ f.added; is = g.is ∙ (a
 pub closes_more : (old new : List Entry) (w : ℕ) (e : Entry) → OnlyCloses w (e ∷ old) new → Continues old new
 closes_more old new w e c = continues_more old (e ∷ old) new (continues_one old (e ∷ old) e refl) (record { added = c.added; is = c.is })
 
--- ---- clauses of lists
-
-pub in_either : {A : Type 0} (xs ys : List A) (x : A) → IsIn (xs ++ ys) x → IsIn xs x ⊎ IsIn ys x
-in_either [] ys x h = inr h
-in_either (z ∷ zs) ys x (zero, at) = inl (0, at)
-in_either (z ∷ zs) ys x (suc k, at) = elim (in_either zs ys x (k, at)) [ inl h ↦ inl (suc h.0, h.1) | inr h ↦ inr h ]
-
-pub in_one : {A : Type 0} (y x : A) → IsIn (y ∷ []) x → y ≡ x
-in_one y x (zero, at) = let q : y ≡ x = cc in q
-in_one y x (suc k, at) = absurd (cc)
+-- ---- empty clauses
 
 pub empty_clause : (c : Clause) → IsEmpty c → is_empty c ≡ true
 empty_clause c h = ap (λ xs. (no_atoms xs && no_atoms c.antecedent) && no_atoms c.succedent) h.0 ∙ (ap (λ xs. no_atoms xs && no_atoms c.succedent) h.1 ∙ ap no_atoms h.2)

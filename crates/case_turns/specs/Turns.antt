@@ -1,25 +1,59 @@
 -- What becomes of a batch that is appended in a turn.
-use Rattle.std.specs.Prelude.{◌≡◌, ◌⊎◌, ℕ, ◌≤◌, false, List, ◌∷◌, ◌++◌, length, Some, None}
+use Rattle.std.specs.Prelude.{◌≡◌, ◌⊎◌, ℕ, ◌+◌, ◌<◌, ◌≤◌, false, Bool, List, [], ◌∷◌, ◌++◌, Some, None, IsSome}
 use Rattle.spl_terms.specs.Clauses.{is_empty}
 use Rattle.proof_steps.specs.declared.step.Line.{Line}
-use Rattle.clause_parts.specs.Parts.{Parted}
 use Rattle.case_journal.specs.declared.event.Entry.{Entry}
-use Rattle.case_journal.specs.Journal.{splits}
+use Rattle.case_journal.specs.declared.event.Event.{Event}
+use Rattle.case_journal.specs.declared.event.Event.TheVariants.{Split, Activate, Big}
+use Rattle.case_journal.specs.Journal.{Setting, nodes, splits}
 use Rattle.case_journal.specs.Paths.{owner}
-use Rattle.case_journal.specs.Facts.{chosen, Holds}
-use Rattle.case_journal.specs.Ending.{first_end}
-use Rattle.case_journal.specs.Legal.{IsSettled}
+use Rattle.case_journal.specs.Facts.{chosen, Holds, IsDead}
+use Rattle.case_journal.specs.Ending.{first_end, reason}
+use Rattle.case_journal.specs.Legal.{IsLegal, IsSettled}
 use Rattle.case_journal.specs.declared.event.End.TheVariants as ends
 use Rattle.split_tree.specs.State.{State}
 use Rattle.backjump.specs.Cases.{IsOpenOrProved}
-use Rattle.journal_laws.specs.Batches.{IsUnderWay, publication}
+use Rattle.clause_splitting.specs.Splitting.{IsSplitAt}
+use Rattle.journal_laws.specs.Frame.{NoneBy}
+use Rattle.journal_laws.specs.Batches.{CanGoOn, publication}
 use Rattle.case_view.specs.Views.{IsIn}
-use Rattle.case_rounds.specs.declared.round.Finish.{Finish}
-use Rattle.case_rounds.specs.declared.round.Finish.TheVariants as finishes
+use Rattle.case_rounds.specs.declared.round.Batch.{Batch}
+use Rattle.case_rounds.specs.Appending.{IsReady}
 use Rattle.case_turns.specs.declared.appending.Gone.{Gone}
 use Rattle.case_turns.specs.declared.appending.Gone.TheVariants as gones
 use Rattle.case_turns.specs.declared.appending.Appended.{Appended}
 use Rattle.case_turns.specs.declared.appending.Appended.TheVariants as outcomes
+
+-- ---- what is asked
+
+-- the batch was made over an earlier journal, since which the worker has appended nothing
+pub record IsWaiting (s : Setting) (past : List Entry) (w m : ℕ) (b : Batch) : Type 0 where
+  pub start : List Entry
+  pub later : List Entry
+  pub more : past ≡ later ++ start
+  pub none : NoneBy w later
+  pub there : m < nodes past
+  pub ready : IsReady s start w m b
+
+-- these are the events of a batch that can be appended
+pub record AreReady (s : Setting) (past : List Entry) (w m : ℕ) (events : List Event) : Type 0 where
+  pub batch : Batch
+  pub ready : IsReady s past w m batch
+  pub are : events ≡ batch.events
+
+-- the chain is one line, which belongs at the node `at` and may be published next
+pub record IsNext (s : Setting) (past : List Entry) (w m at : ℕ) (chain : List Line) : Type 0 where
+  pub line : Line
+  pub is : chain ≡ line ∷ []
+  pub owns : at ≡ owner past line.stated.deps m
+  pub go : CanGoOn s past w m line
+
+-- the event finishes the round of the clause that is chosen at m, and may be appended now, but for a Split's limits
+abbrev pub IsLastNow : Setting → List Entry → ℕ → ℕ → Event → Type 0
+IsLastNow s past w m (Split node lines put_off) = IsSplitAt s past m lines put_off
+IsLastNow s past w m (Activate node) = IsLegal s past w (Activate m)
+IsLastNow s past w m (Big node partner symbols) = IsLegal s past w (Big m partner symbols)
+IsLastNow s past w m _ = ⊥
 
 -- ---- what became of it
 
@@ -28,38 +62,23 @@ pub record Continues (earlier later : List Entry) : Type 0 where
   pub added : List Entry
   pub is : later ≡ added ++ earlier
 
--- the lines were published: wherever they had been made, all are under way
-abbrev pub HasPublished : State → State → ℕ → ℕ → List Line → Type 0
-HasPublished old new w m lines = (start : List Entry) → IsUnderWay old.setting start old.past w m lines 0 → IsUnderWay new.setting start new.past w m lines (length lines)
-
 -- the worker holds no node, the tree is settled, and nothing has ended the journal, or a contradiction has
 pub record IsLeft (t : State) (w : ℕ) : Type 0 where
   pub idle : (n : ℕ) → ¬ Holds t.setting t.past w n
   pub settled : IsSettled t.setting t.past
   pub ended : IsOpenOrProved t.past
 
--- all lines were published, and none is empty
-pub record AllPublished (old new : State) (w m : ℕ) (lines : List Line) : Type 0 where
-  pub settled : IsSettled new.setting new.past
-  pub unended : first_end new.past ≡ None
-  pub splits : splits new.past ≡ splits old.past
-  pub way : HasPublished old new w m lines
-  pub full : (l : Line) → IsIn lines l → is_empty l.stated.clause ≡ false
-
-abbrev pub AreGone : State → State → ℕ → ℕ → List Line → Gone → Type 0
-AreGone old new w m lines gones.Published = AllPublished old new w m lines
-AreGone old new w m lines gones.Closed = IsLeft new w
-AreGone old new w m lines gones.Full = first_end new.past ≡ Some ends.Steps
-
--- one line was published
+-- the line was published
 pub record IsPublished (old new : State) (w m : ℕ) (l : Line) : Type 0 where
   pub past : new.past ≡ publication w (owner old.past l.stated.deps m) l ∷ old.past
   pub full : is_empty l.stated.clause ≡ false
+  pub events : old.spare_events ≤ new.spare_events + 1
+  pub steps : old.spare_steps ≤ new.spare_steps + 1
 
-abbrev pub IsGone : State → State → ℕ → ℕ → Line → Gone → Type 0
-IsGone old new w m l gones.Published = IsPublished old new w m l
-IsGone old new w m l gones.Closed = IsLeft new w
-IsGone old new w m l gones.Full = first_end new.past ≡ Some ends.Steps
+abbrev pub IsGone : State → State → ℕ → ℕ → List Line → Gone → Type 0
+IsGone old new w m chain gones.Published = (l : Line) → chain ≡ l ∷ [] → IsPublished old new w m l
+IsGone old new w m chain gones.Closed = IsLeft new w
+IsGone old new w m chain gones.Full = first_end new.past ≡ Some ends.Steps
 
 -- the worker holds m, where nothing is chosen
 pub record IsFree (t : State) (w m : ℕ) : Type 0 where
@@ -75,11 +94,17 @@ pub record IsAgain (t : State) (w m : ℕ) : Type 0 where
   pub settled : IsSettled t.setting t.past
   pub unended : first_end t.past ≡ None
 
--- the batch would split, and as many clauses had been split as may be
-pub record HasNoSplitLeft (t : State) (finish : Finish) : Type 0 where
-  pub parts : Parted
-  pub is : finish ≡ finishes.Split parts
+-- the event would split, and as many clauses had been split as may be
+pub record HasNoSplitLeft (t : State) (ev : Event) : Type 0 where
+  pub node : ℕ
+  pub lines : List Line
+  pub put_off : List Bool
+  pub is : ev ≡ Split node lines put_off
   pub spent : t.setting.limits.splits ≤ splits t.past
+
+-- one of the events would
+abbrev pub CanNotSplit : State → List Event → Type 0
+CanNotSplit t events = (ev : Event) × IsIn events ev × HasNoSplitLeft t ev
 
 -- the steps are spent, or an inference was too large
 pub record IsEndedBy (t : State) : Type 0 where
@@ -90,3 +115,4 @@ IsOutcome t w m outcomes.Activated = IsFree t w m
 IsOutcome t w m outcomes.Left = IsLeft t w
 IsOutcome t w m outcomes.Ended = IsEndedBy t
 IsOutcome t w m outcomes.Again = IsAgain t w m
+IsOutcome t w m outcomes.Dropped = IsSome (reason t.setting t.past) ⊎ IsDead t.setting t.past m

@@ -1,9 +1,9 @@
 //! One case after another, by the one worker of a table.
-ghost use Rattle.std.specs.Prelude.{◌≡◌, ◌<◌, ◌∷◌, IfOk, OnOk, IsSome, None};
+ghost use Rattle.std.specs.Prelude.{◌≡◌, ◌<◌, ◌∷◌, false, IfOk, OnOk, IsSome, None};
 ghost use Rattle.case_journal.specs.declared.event.Event.TheVariants.{Claim};
 ghost use Rattle.case_journal.specs.Journal.{rounds};
 ghost use Rattle.case_journal.specs.Facts.{Holds};
-ghost use Rattle.case_journal.specs.Ending.{first_end, reason};
+ghost use Rattle.case_journal.specs.Ending.{first_end, has_empty, reason};
 ghost use Rattle.case_journal.specs.Legal.{IsSettled};
 ghost use Rattle.case_turns.specs.Turns.{IsFree};
 ghost use Rattle.case_turns.specs.Desks.{HasTrail, IsDesk};
@@ -58,6 +58,7 @@ fn held_or_claimed(table: &mut Table) -> Result<u32, AllocError>
 /// Works on at the leaf that the worker holds: first it finishes the round of the clause that is chosen there, if one is.
 fn resume(alloc: Global, table: &mut Table, node: u32, desk: &mut Desk) -> Result<(), AllocError>
     requires one { table.old.setting.workers ≡ 1 }
+    requires unrefuted { has_empty table.old.setting.input ≡ false }
     requires holds { Holds table.old.setting table.old.past 1 node }
     requires settled { IsSettled table.old.setting table.old.past }
     requires unended { first_end table.old.past ≡ None }

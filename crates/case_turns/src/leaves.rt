@@ -1,9 +1,9 @@
 //! The rounds of a worker at the leaf that it holds, where it is alone.
-ghost use Rattle.std.specs.Prelude.{◌≡◌, ◌<◌, ◌≤◌, IfOk, OnOk, IsSome, MatchBool, None, Some, ◌∷◌};
+ghost use Rattle.std.specs.Prelude.{◌≡◌, ◌<◌, ◌≤◌, false, IfOk, OnOk, IsSome, MatchBool, None, Some, ◌∷◌};
 ghost use Rattle.case_journal.specs.declared.event.Event.TheVariants.{Choose};
 ghost use Rattle.case_journal.specs.Journal.{rounds};
 ghost use Rattle.case_journal.specs.Facts.{chosen, Holds};
-ghost use Rattle.case_journal.specs.Ending.{first_end};
+ghost use Rattle.case_journal.specs.Ending.{first_end, has_empty};
 ghost use Rattle.case_journal.specs.Legal.{IsSettled};
 ghost use Rattle.case_journal.specs.Picking.{pick_at};
 ghost use Rattle.case_turns.specs.Turns.{IsFree};
@@ -27,6 +27,7 @@ pub fn finish_round(
     node: u32,
     desk: &mut Desk,
 ) -> Result<bool, AllocError>
+    requires unrefuted { has_empty table.old.setting.input ≡ false }
     requires busy { IsBusy table.old 1 node }
     requires desk { IsDesk table.old.setting table.old.past 1 node desk.old }
     ensures setting { table.new.setting ≡ table.old.setting }
@@ -44,6 +45,7 @@ pub fn finish_round(
         Appended::Left => Ok(false),
         Appended::Ended => Ok(false),
         Appended::Again => unreachable!(),
+        Appended::Dropped => unreachable!(),
     }
 }
 
@@ -79,6 +81,7 @@ fn work_round(
     desk: &mut Desk,
 ) -> Result<bool, AllocError>
     requires one { table.old.setting.workers ≡ 1 }
+    requires unrefuted { has_empty table.old.setting.input ≡ false }
     requires free { IsFree table.old 1 node }
     requires desk { IsDesk table.old.setting table.old.past 1 node desk.old }
     ensures setting { table.new.setting ≡ table.old.setting }
@@ -110,6 +113,7 @@ pub fn work_on(
     desk: &mut Desk,
 ) -> Result<(), AllocError>
     requires one { table.old.setting.workers ≡ 1 }
+    requires unrefuted { has_empty table.old.setting.input ≡ false }
     requires free { IsFree table.old 1 node }
     requires desk { IsDesk table.old.setting table.old.past 1 node desk.old }
     ensures setting { table.new.setting ≡ table.old.setting }

@@ -23,7 +23,7 @@ use Rattle.case_journal.specs.LedgerLaws.{numbered_more}
 use Rattle.case_journal.specs.StandingLaws.{split_here}
 use Rattle.case_journal.specs.FreshLaws.{fresh_leaf}
 use Rattle.clause_splitting.proofs.Left.{left_full}
-use Rattle.clause_splitting.proofs.Lines.{assume_concludes}
+use Rattle.clause_splitting.proofs.Sizes.{assume_concludes}
 
 abbrev pub splitting : ℕ → ℕ → List Line → List Bool → Entry
 splitting w node lines put_off = record { by = w; event = Split node lines put_off }

@@ -2,5 +2,7 @@
 #![tactic(auto)]
 
 mod splitting;
+mod steps;
 
 pub use splitting::split;
+pub use steps::split_event;

@@ -1,4 +1,4 @@
-use Rattle.std.proofs.Common.{◌+◌, ◌∙◌, ap, sym, subst, arith, refl, length, false, slice_get}
+use Rattle.std.proofs.Common.{◌-◌, ◌≡◌, ◌∙◌, ap, sym, subst, arith, refl, length, false, Some, slice_get}
 use Rattle.std.proofs.lemmas.Option.{slice_get_read}
 use Rattle.case_journal.specs.declared.event.Event.TheVariants.{Publish}
 use Rattle.backjump.proofs.Follow.{plan_first, plan_more, plan_done, next_low, root_settled, twin_settled, next_of, none_due, IsPlanned}
@@ -9,10 +9,13 @@ loop-at-init c =
     let s = c.args.table.now.setting in
     let p = c.args.table.now.past in
     let xs = c.as_slice.result.now in
-    let one = ap length (c.requires.legal.asked.asked.one) in
-    let got = slice_get_read xs (length xs) 0 c.index-as_slice-0.result refl (omega (arith, one, ap length c.as_slice.ensures)) c.index-as_slice-0.is in
-    plan_first s p c.args.by c.args.node c.args.chain c.index-as_slice-0.result c.laws.ensures.legal c.requires.legal c.requires.settled (ap (λ ys. slice_get ys 0) (sym c.as_slice.ensures) ∙ got) c.requires.empty
-    c.in_ok-events.events.items c.in_ok-events.ensures.items c.in_ok-deps.deps (c.in_ok-deps.ensures ∙ ap (λ x. x.stated.deps) (sym c.index-as_slice-0.is)) c.in_ok-number.number (c.in_ok-number.ensures ∙ ap (λ n. n + 1) c.steps.ensures)
+    let one : length c.args.chain ≡ 1 = ap length (c.requires.legal.asked.asked.one) in
+    let k = c.len-last.result - 1 in
+    let first : k ≡ 0 = omega (arith, c.len-last.ensures, one) in
+    let read = slice_get_read xs (length xs) k c.index-as_slice-last.result refl (omega (arith, first, one, ap length c.as_slice.ensures)) c.index-as_slice-last.is in
+    let got = subst (λ n. slice_get xs n ≡ Some c.index-as_slice-last.result) first read in
+    plan_first s p c.args.by c.args.node c.args.chain c.index-as_slice-last.result c.laws.ensures.legal c.requires.legal c.requires.settled (ap (λ ys. slice_get ys 0) (sym c.as_slice.ensures) ∙ got) c.requires.empty
+    c.in_ok-events.events.items c.in_ok-events.ensures.items c.in_ok-deps.deps (c.in_ok-deps.ensures ∙ ap (λ x. x.stated.deps) (sym c.index-as_slice-last.is)) c.in_ok-number.number (omega (arith, c.in_ok-number.ensures, c.steps.ensures, c.len.ensures, one))
 
 pub next_step-requires-clause-there : goal.next_step-requires-clause-there
 next_step-requires-clause-there c = omega (arith, c.loop-at.invariant.way.there, c.loop-at.invariant.way.count)

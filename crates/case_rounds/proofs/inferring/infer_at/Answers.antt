@@ -12,9 +12,9 @@ returns-in_ok-push_line-in-Ok-Some-clause-infers c =
     let a = c.args in
     let made = sym c.in-Ok-Some.ensures.0 ∙ c.in-Ok-Some.field-0-is in
     infers_one a.p.now a.q.now a.lines.now c.push_line.new.lines _ c.in_ok-push_line-in-Ok-Some.ensures (record {
-      i = a.i;
-      part = a.part;
-      j = a.j;
+      i = a.at.i;
+      part = a.at.part;
+      j = a.at.j;
       step = refl;
       concluded = made;
       small = subst (λ o. IfSome o (λ s. clause_symbols s.clause ≤ 4096)) made c.in-Ok-Some.ensures.1;
@@ -23,10 +23,10 @@ returns-in_ok-push_line-in-Ok-Some-clause-infers c =
 pub returns-in_ok-push_line-in-Ok-Some-clause-has : goal.returns-in_ok-push_line-in-Ok-Some-clause-has
 returns-in_ok-push_line-in-Ok-Some-clause-has c =
     let a = c.args in
-    has_one a.p.now a.q.now a.i a.part a.j a.lines.now c.push_line.new.lines _ c.in_ok-push_line-in-Ok-Some.ensures (sym c.in-Ok-Some.ensures.0 ∙ c.in-Ok-Some.field-0-is)
+    has_one a.p.now a.q.now a.at.i a.at.part a.at.j a.lines.now c.push_line.new.lines _ c.in_ok-push_line-in-Ok-Some.ensures (sym c.in-Ok-Some.ensures.0 ∙ c.in-Ok-Some.field-0-is)
 
 pub returns-in-Err-Big-clause-stop : goal.returns-in-Err-Big-clause-stop
 returns-in-Err-Big-clause-stop c =
     let a = c.args in
-    let sized = subst (λ e. Sized (conclusion_of a.i a.part a.j a.p.now a.q.now) (Err e)) c.in-Err-Big.field-0-is c.in-Err-Big.ensures in
-    (refl, subst (IsLarge a.p.now a.q.now) (sym c.in-Err-Big.symbols-is) (large_at a.p.now a.q.now a.i a.part a.j c.in-Err-Big.symbols (conclusion_of a.i a.part a.j a.p.now a.q.now) refl sized))
+    let sized = subst (λ e. Sized (conclusion_of a.at.i a.at.part a.at.j a.p.now a.q.now) (Err e)) c.in-Err-Big.field-0-is c.in-Err-Big.ensures in
+    (refl, subst (IsLarge a.p.now a.q.now) (sym c.in-Err-Big.symbols-is) (large_at a.p.now a.q.now a.at.i a.at.part a.at.j c.in-Err-Big.symbols (conclusion_of a.at.i a.at.part a.at.j a.p.now a.q.now) refl sized))

@@ -1,16 +1,10 @@
-use Rattle.std.proofs.Common.{◌≡◌, ◌∙◌, Some, sym, subst}
+use Rattle.std.proofs.Common.{subst}
 use Rattle.std.specs.Prelude.{MatchBool}
 use Rattle.case_journal.specs.declared.event.Event.TheVariants.{Split, Full}
 use Rattle.clause_splitting.specs.Splitting.{IsSplitBy, IsFullBy}
 use Rattle.case_turns.proofs.Turns.{continues_one}
-use Rattle.case_journal.specs.Facts.{chosen}
-use Rattle.case_journal.specs.PlaceLaws.{claimed_within}
 use Rattle.case_journal.specs.LeafLaws.{claimer_within}
-use Rattle.case_journal.specs.DependenceLaws.{chosen_listed}
 use Rattle.case_turns.proofs.appending.append_split.Goals as goal
-
-pub chosen-requires : goal.chosen-requires
-chosen-requires c = claimed_within c.args.table.now.setting c.args.table.now.past c.journal_is_legal.ensures c.args.by c.args.node c.requires.holds.claims
 
 pub split-requires-clause-some : goal.split-requires-clause-some
 split-requires-clause-some c = (claimer_within c.args.table.now.setting c.args.table.now.past c.journal_is_legal.ensures c.args.by c.args.node c.requires.holds.claims).0
@@ -18,24 +12,18 @@ split-requires-clause-some c = (claimer_within c.args.table.now.setting c.args.t
 pub split-requires-clause-worker : goal.split-requires-clause-worker
 split-requires-clause-worker c = (claimer_within c.args.table.now.setting c.args.table.now.past c.journal_is_legal.ensures c.args.by c.args.node c.requires.holds.claims).1
 
-pub split-requires-clause-kept : goal.split-requires-clause-kept
-split-requires-clause-kept c =
-    let t = c.args.table.now in
-    let is : chosen t.past c.args.node ≡ Some c.unwrap-clause.result = sym c.chosen.ensures ∙ c.unwrap-clause.ensures in
-    (chosen_listed t.setting t.past c.journal_is_legal.ensures c.args.node c.unwrap-clause.result is).1
-
-pub returns-then-branch-clause-more : goal.returns-then-branch-clause-more
-returns-then-branch-clause-more c =
+pub returns-then-split-clause-more : goal.returns-then-split-clause-more
+returns-then-split-clause-more c =
     let a = c.args in
     let t = a.table.now in
     let new = c.split.new.table in
-    let d : IsSplitBy a.by a.node t new = subst (λ b. MatchBool b (IsSplitBy a.by a.node t new) (IsFullBy a.by a.node t new)) c.if-branch.true c.in_ok-split.ensures.done in
+    let d : IsSplitBy a.by a.node t new = subst (λ b. MatchBool b (IsSplitBy a.by a.node t new) (IsFullBy a.by a.node t new)) c.if-split.true c.split.ensures.done in
     continues_one t.past new.past (record { by = a.by; event = Split a.node d.lines d.put_off }) d.is
 
-pub returns-else-branch-clause-more : goal.returns-else-branch-clause-more
-returns-else-branch-clause-more c =
+pub returns-else-split-clause-more : goal.returns-else-split-clause-more
+returns-else-split-clause-more c =
     let a = c.args in
     let t = a.table.now in
     let new = c.split.new.table in
-    let d : IsFullBy a.by a.node t new = subst (λ b. MatchBool b (IsSplitBy a.by a.node t new) (IsFullBy a.by a.node t new)) c.if-branch.false c.in_ok-split.ensures.done in
+    let d : IsFullBy a.by a.node t new = subst (λ b. MatchBool b (IsSplitBy a.by a.node t new) (IsFullBy a.by a.node t new)) c.if-split.false c.split.ensures.done in
     continues_one t.past new.past (record { by = a.by; event = Full a.node d.chain }) d.is

@@ -1,8 +1,9 @@
-use Rattle.std.proofs.Common.{◌≡◌, ◌<◌, ◌+◌, ◌∷◌, [], OnOk, None, sym, ap, subst, arith}
+use Rattle.std.proofs.Common.{◌≡◌, ◌∙◌, ◌<◌, ◌+◌, ◌∷◌, [], OnOk, None, sym, ap, subst, arith}
 use Rattle.case_journal.specs.declared.event.Event.TheVariants.{Claim}
 use Rattle.case_journal.specs.Journal.{rounds}
 use Rattle.case_journal.specs.Facts.{Holds}
-use Rattle.case_journal.specs.Ending.{first_end}
+use Rattle.case_journal.specs.Ending.{first_end, has_empty}
+use Rattle.case_turns.proofs.Rounds.{open_input}
 use Rattle.case_turns.proofs.Desks.{trail_later_on, trail_own, desk_at}
 use Rattle.case_turns.proofs.cases.work_case.Goals as goal
 
@@ -17,6 +18,11 @@ pub move_to-requires-clause-holds : goal.move_to-requires-clause-holds
 move_to-requires-clause-holds c =
     let n = c.claim.new.table in
     subst (λ w. Holds n.setting n.past w c.in_ok-node.node) (sym c.requires.trail.worker) c.in_ok-node.ensures.free.holds
+
+pub work_on-requires-clause-unrefuted : goal.work_on-requires-clause-unrefuted
+work_on-requires-clause-unrefuted c =
+    let t = c.args.table.now in
+    ap (λ s. has_empty s.input) c.claim.ensures.setting ∙ open_input t.setting t.past c.requires.going
 
 pub work_on-requires-clause-desk : goal.work_on-requires-clause-desk
 work_on-requires-clause-desk c =

@@ -1,7 +1,11 @@
 use Rattle.std.proofs.Common.{◌∙◌, ap, arith, subst}
+use Rattle.case_journal.specs.Ending.{has_empty}
 use Rattle.case_journal.specs.BoundLaws.{rounds_bound}
 use Rattle.case_turns.specs.Working.{GoesOnAt}
 use Rattle.case_turns.proofs.leaves.work_on.Goals as goal
+
+pub work_round-requires-clause-unrefuted : goal.work_round-requires-clause-unrefuted
+work_round-requires-clause-unrefuted c = ap (λ s. has_empty s.input) c.loop-table.invariant.setting ∙ c.requires.unrefuted
 
 pub loop-table-smaller : goal.loop-table-smaller
 loop-table-smaller c =

@@ -1,4 +1,5 @@
 use Rattle.std.proofs.Common.{◌∙◌, ◌∷◌, [], refl, sym, ap, arith}
+use Rattle.case_journal.specs.Ending.{has_empty}
 use Rattle.case_journal.specs.PlaceLaws.{claimed_within}
 use Rattle.case_turns.specs.Desks.{IsDeskNow}
 use Rattle.case_turns.proofs.Desks.{desk_caught, desk_after, desk_moved, trail_later_on}
@@ -19,6 +20,9 @@ apply-requires-then-rounds-limits-clause-legal c =
     let e = c.reserve.ensures in
     legal_spent c.chosen_leaves_are_held.ensures r c.args.node c.in-Some.clause c.laws.ensures.legal (ap (λ s. s.workers) e.setting ∙ c.requires.one) (free_moved t r 1 c.args.node e.setting e.past c.requires.free) (sym c.pick.ensures.pick ∙ c.in-Some.is)
     (omega (arith, c.if-rounds-limits.true, c.rounds.ensures, ap (λ l. l.rounds) c.limits.ensures))
+
+pub finish_round-requires-clause-unrefuted : goal.finish_round-requires-clause-unrefuted
+finish_round-requires-clause-unrefuted c = ap (λ s. has_empty s.input) (c.choose.ensures.setting ∙ c.reserve.ensures.setting) ∙ c.requires.unrefuted
 
 pub finish_round-requires-clause-desk : goal.finish_round-requires-clause-desk
 finish_round-requires-clause-desk c =
