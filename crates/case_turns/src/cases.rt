@@ -1,5 +1,5 @@
 //! One case after another, by the one worker of a table.
-ghost use Rattle.std.specs.Prelude.{◌≡◌, ◌<◌, ◌∷◌, false, IfOk, OnOk, IsSome, None};
+ghost use Rattle.std.specs.Prelude.{◌≡◌, ◌<◌, ◌∷◌, false, IfOk, OnOk, IsSome, None, Some};
 ghost use Rattle.case_journal.specs.declared.event.Event.TheVariants.{Claim};
 ghost use Rattle.case_journal.specs.Journal.{rounds};
 ghost use Rattle.case_journal.specs.Facts.{Holds};
@@ -12,7 +12,7 @@ ghost use Rattle.case_turns.specs.Working.{IsBetween};
 use crate::desk::{Desk, take_desk};
 use crate::leaves::{finish_round, work_on};
 use backjump::settle;
-use case_journal::Event;
+use case_journal::{End, Event};
 use journal_laws::{chosen_leaves_are_held, dead_nodes_stay_dead};
 use split_tree::Table;
 use std::alloc::{AllocError, Global};
@@ -133,24 +133,25 @@ fn stop(table: &mut Table)
     }
 }
 
-/// Works as the one worker of a table, from any journal on, until there is a reason to end; it appends `Stop` where it
-/// finds no memory.
+/// Works as the one worker of a table, from any journal on, until there is a reason to end, and answers that; it appends
+/// `Stop` where it finds no memory.
 ///
 /// First the tree is settled, and the round of the clause that is chosen at the held leaf is finished. Then the cases are
 /// worked on from left to right. At each the given clause is chosen by the pick rule, split where it has parts and splits
 /// remain, and else resolved with the clauses that were activated before; what is neither a tautology nor subsumed as it
 /// stands is published (the main loop of Weidenbach 2001, with its splitting rule).
-pub fn alone(alloc: Global, table: &mut Table)
+pub fn alone(alloc: Global, table: &mut Table) -> End
     requires { table.old.setting.workers ≡ 1 }
-    ensures ended { IsSome (reason table.new.setting table.new.past) }
+    ensures ended { reason table.new.setting table.new.past ≡ Some result }
     ensures setting { table.new.setting ≡ table.old.setting }
 {
     table.laws();
-    if table.reason().is_some() {
-        return;
+    if let Some(end) = table.reason() {
+        return end;
     }
     match work(alloc, table) {
         Ok(()) => {}
         Err(_) => stop(table),
     }
+    table.reason().unwrap()
 }

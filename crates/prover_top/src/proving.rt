@@ -113,37 +113,39 @@ fn kept_count(table: &Table, node: u32) -> u32
     count
 }
 
-/// The answer of a table for which proving has ended.
-fn answer_of(table: &Table) -> Answer
-    requires { IsLegalJournal table.now.setting table.now.past }
+/// The answer of a table for which proving has ended, for this reason.
+fn answer_of(table: &Table, end: End) -> Answer
+    requires legal { IsLegalJournal table.now.setting table.now.past }
+    requires ended { reason table.now.setting table.now.past ≡ Some end }
     ensures { result ≡ answer_of table.now }
 {
-    match table.reason() {
-        Some(End::Proved) => Answer::ProofFound,
-        Some(End::Completed { node }) => Answer::Completion {
+    match end {
+        End::Proved => Answer::ProofFound,
+        End::Completed { node } => Answer::Completion {
             node,
             kept: kept_count(table, node),
             put_off: 0,
         },
-        Some(End::Rounds) => Answer::Rounds {
+        End::Rounds => Answer::Rounds {
             count: table.limits().rounds,
         },
-        Some(End::Steps) => Answer::Steps {
+        End::Steps => Answer::Steps {
             limit: table.limits().steps,
         },
-        Some(End::Size { symbols }) => Answer::Size { symbols },
-        Some(End::Memory) | None => Answer::Memory,
+        End::Size { symbols } => Answer::Size { symbols },
+        End::Memory => Answer::Memory,
     }
 }
 
-fn decide(alloc: Global, table: Table) -> Decided
+fn decide(alloc: Global, table: Table, end: End) -> Decided
+    requires { reason table.setting table.past ≡ Some end }
     ensures answered { IsAnswered table result.proof result.answer }
     ensures table { result.table ≡ Some table }
     ensures legal { IsLegalJournal table.setting table.past }
     ensures short { length result.proof < 2 ^ 32 }
 {
     table.journal_is_legal();
-    match answer_of(&table) {
+    match answer_of(&table, end) {
         Answer::ProofFound => found(alloc, table),
         answer => without_proof(alloc, table, answer),
     }
@@ -157,6 +159,6 @@ pub fn work(alloc: Global, mut table: Table) -> Decided
     ensures decided { IsDecided table.setting.limits table.setting.input result.table result.proof result.answer }
     ensures short { length result.proof < 2 ^ 32 }
 {
-    alone(alloc, &mut table);
-    decide(alloc, table)
+    let end = alone(alloc, &mut table);
+    decide(alloc, table, end)
 }
