@@ -15,13 +15,12 @@ use Rattle.case_journal.specs.Journal.{lines_of}
 use Rattle.case_journal.specs.ListLaws.{get_more}
 use Rattle.case_view.specs.declared.kept.Kept.{Kept}
 use Rattle.case_view.specs.declared.kept.Case.{Case}
-use Rattle.spl_truth.specs.Redundancy.{Subsumes}
 use Rattle.case_view.specs.Views.{IsIn, and_more}
 use Rattle.case_view.specs.Walks.{count_with, entered, side_into, worked_with, noted}
 use Rattle.case_view.specs.Marks.{Begins, HasGrown}
 use Rattle.case_view.specs.MarkLaws.{begins_self}
 use Rattle.case_view.specs.PlaceLaws.{contains_at}
-use Rattle.case_view.specs.Caches.{AreFiled, AreFiledTo, AreUnderAll, AreUnderAllTo}
+use Rattle.case_view.specs.Caches.{AreFiled, AreFiledTo, AreUnderAll, AreUnderAllTo, IsSubsumedBy, IsOther}
 
 -- ---- lists that begin with others
 
@@ -138,13 +137,12 @@ below_all places kept count n x long h c small = h.all c.0 x (omega (arith, c.1,
 
 -- ---- what was found
 
--- one of the clauses subsumes the clause
-abbrev pub IsSubsumedBy : List Kept → Clause → Type 0
-IsSubsumedBy list clause = (k : Kept) × IsIn list k × Subsumes k.stated.clause clause
+-- what the false side gives may stand in its place
+pub where_false : (A B C : Type 0) (b : Bool) → (B → C) → MatchBool b A B → MatchBool b A C
+where_false A B C true f m = m
+where_false A B C false f m = f m
 
--- where none of those that were found is this very clause, none is
-pub told : (list : List Kept) (entries : List Entry) (clause : Clause) (places : List ℕ) (b : Bool) → AreFiled list entries → ((v : ℕ) → IsFiledClause entries clause v → Contains places v)
-    → MatchBool b (IsSubsumedBy list clause) ((n : ℕ) (k : Kept) → Contains places n → slice_get list n ≡ Some k → ¬ (k.stated.clause ≡ clause))
+-- where none that is filed for this very clause is this one, none is
+pub told : (list : List Kept) (entries : List Entry) (clause : Clause) (b : Bool) → AreFiled list entries → MatchBool b (IsSubsumedBy list clause) ((n : ℕ) → IsFiledClause entries clause n → IsOther list clause n)
     → MatchBool b (IsSubsumedBy list clause) ((k : Kept) → IsIn list k → ¬ (k.stated.clause ≡ clause))
-told list entries clause places true filed found h = h
-told list entries clause places false filed found h = λ k at same. h at.0 k (found at.0 (subst (λ d. IsFiledClause entries d at.0) same (filed at.0 k at.1))) at.1 same
+told list entries clause b filed m = where_false _ _ _ b (λ none k at same. none at.0 (subst (λ d. IsFiledClause entries d at.0) same (filed at.0 k at.1)) k at.1 same) m

@@ -1,17 +1,17 @@
 //! The clauses of a view, filed so that they are found by their atoms.
 ghost use Rattle.std.specs.Prelude.{◌≡◌, ℕ, ◌<◌, Some, IfOk, OnOk, MatchBool, Contains, slice_get};
-ghost use Rattle.spl_truth.specs.Redundancy.{Subsumes};
+ghost use Rattle.clause_filing.specs.Filings.{IsFiledClause, HoldsUnder, HoldUnder};
 ghost use Rattle.case_journal.specs.Journal.{nodes};
 ghost use Rattle.case_view.specs.declared.kept.Kept.{Kept};
-ghost use Rattle.case_view.specs.Views.{IsIn, IsCaseOf};
+ghost use Rattle.case_view.specs.Views.{IsCaseOf};
 ghost use Rattle.case_view.specs.Walks.{Reaches};
 ghost use Rattle.case_view.specs.Marks.{HasGrown};
-ghost use Rattle.case_view.specs.Caches.{AreFiled, AreFiledTo, AreUnderAll, AreUnderAllTo};
+ghost use Rattle.case_view.specs.Caches.{AreFiled, AreFiledTo, AreUnderAll, AreUnderAllTo, IsSubsumedBy, IsOther};
 
 use crate::kept::{Case, Kept};
 use crate::walking::walk;
-use clause_filing::Filing;
-use spl_terms::{Clause, at};
+use clause_filing::{AFTER_ARROW, BEFORE_ARROW, Filing, clause_mask, is_within, key};
+use spl_terms::{Atom, Clause, at};
 use spl_truth::is_subclause;
 use split_tree::Table;
 use std::alloc::{AllocError, Global};
@@ -72,21 +72,72 @@ pub fn walk_and_file(
     Ok(())
 }
 
-/// Whether one of the clauses at these places is a subclause of the clause. Where none is, none of them is this very
-/// clause.
-pub fn is_subclause_at(clauses: &[Kept], places: &[u32], clause: &Clause) -> bool
-    ensures { MatchBool result
-        ((k : Kept) × IsIn clauses.now k × Subsumes k.stated.clause clause.now)
-        ((n : ℕ) (k : Kept) → Contains places.now n → slice_get clauses.now n ≡ Some k → ¬ (k.stated.clause ≡ clause.now)) }
+/// Whether the clause at this place is a subclause of the clause.
+fn is_subclause_at(clauses: &[Kept], place: u32, clause: &Clause) -> bool
+    ensures { MatchBool result (IsSubsumedBy clauses.now clause.now) (IsOther clauses.now clause.now place) }
 {
-    for k in 0..places.len() {
-        if let Some(kept) = at(clauses, places[k] as usize) {
-            if is_subclause(&kept.stated.clause, clause) {
-                return true;
-            }
+    match at(clauses, place as usize) {
+        Some(kept) => is_subclause(&kept.stated.clause, clause),
+        None => false,
+    }
+}
+
+/// Whether a clause that is filed under the key, with a mask within this one, is a subclause of the clause.
+fn is_subsumed_at(clauses: &[Kept], filing: &Filing, key: u64, clause: &Clause, mask: u64) -> bool
+    ensures { MatchBool result (IsSubsumedBy clauses.now clause.now)
+        (HoldsUnder (IsOther clauses.now clause.now) filing.now key mask) }
+{
+    let mut number = filing.newest(key);
+    while let Some(entry) = filing.entry(number) {
+        if is_within(entry.mask, mask) && is_subclause_at(clauses, entry.value, clause) {
+            return true;
+        }
+        number = entry.older;
+    }
+    false
+}
+
+/// Whether a clause that is filed under the key of one of the atoms, with a mask within this one, is a subclause of the
+/// clause.
+fn is_subsumed_by(
+    clauses: &[Kept],
+    filing: &Filing,
+    side: u64,
+    atoms: &[Atom],
+    clause: &Clause,
+    mask: u64,
+) -> bool
+    ensures { MatchBool result (IsSubsumedBy clauses.now clause.now)
+        (HoldUnder (IsOther clauses.now clause.now) filing.now side atoms.now mask) }
+{
+    for atom in atoms {
+        if is_subsumed_at(clauses, filing, key(side, atom), clause, mask) {
+            return true;
         }
     }
     false
+}
+
+/// Whether a clause that is filed is a subclause of the clause. Where none is, none that is filed for this very clause is
+/// this one.
+pub fn has_subclause(clauses: &[Kept], filing: &Filing, clause: &Clause) -> bool
+    ensures { MatchBool result (IsSubsumedBy clauses.now clause.now)
+        ((n : ℕ) → IsFiledClause filing.now clause.now n → IsOther clauses.now clause.now n) }
+{
+    let mask = clause_mask(clause);
+    if is_subsumed_at(clauses, filing, 0, clause, mask) {
+        return true;
+    }
+    let succedent = clause.succedent.as_slice();
+    if is_subsumed_by(clauses, filing, AFTER_ARROW, succedent, clause, mask) {
+        return true;
+    }
+    let antecedent = clause.antecedent.as_slice();
+    if is_subsumed_by(clauses, filing, BEFORE_ARROW, antecedent, clause, mask) {
+        return true;
+    }
+    let constraint = clause.constraint.as_slice();
+    is_subsumed_by(clauses, filing, BEFORE_ARROW, constraint, clause, mask)
 }
 
 /// Those of the places that are below the count, in their order.

@@ -11,7 +11,7 @@ ghost use Rattle.case_view.specs.Marks.{HasGrown, IsMarkOf};
 ghost use Rattle.case_view.specs.Walks.{Reaches};
 ghost use Rattle.case_view.specs.Views.{IsIn, IsOrdered, IsPartnerOf, IsCaseOf, StandsFor, GoesOn};
 
-use crate::filed::{file_clauses, file_under_all, is_subclause_at, places_below, walk_and_file};
+use crate::filed::{file_clauses, file_under_all, has_subclause, places_below, walk_and_file};
 use crate::kept::{Case, Kept, Mark};
 use crate::walking::{path_to, root_case, walk};
 use clause_filing::Filing;
@@ -246,8 +246,7 @@ impl CaseView {
             ((k : Kept) × IsIn self.now.listed k × Subsumes k.stated.clause clause.now)
             ((k : Kept) → IsIn self.now.listed k → ¬ (k.stated.clause ≡ clause.now))) }
     {
-        let places = self.clauses.subclauses(self.alloc, clause)?;
-        Ok(is_subclause_at(self.case.listed.as_slice(), places.as_slice(), clause))
+        Ok(has_subclause(self.case.listed.as_slice(), &self.clauses, clause))
     }
 
     /// How many steps the ledger had.

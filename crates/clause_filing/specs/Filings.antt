@@ -95,17 +95,25 @@ IsFiledUnderAll entries c value = (part : Part) → HasAtoms entries (side part)
 
 -- ---- what is found
 
+-- P holds of each value that is filed under the key with a mask within this one
+abbrev pub HoldsUnder : (ℕ → Type 0) → List Entry → ℕ → ℕ → Type 0
+HoldsUnder P entries key mask = (y : ℕ) (e : Entry) → numbered entries y ≡ Some e → e.key ≡ key → is_within e.mask mask ≡ true → P e.value
+
+-- of each that is filed under the key of one of the atoms
+abbrev pub HoldUnder : (ℕ → Type 0) → List Entry → ℕ → List Atom → ℕ → Type 0
+HoldUnder P entries side atoms mask = (k : ℕ) (a : Atom) → slice_get atoms k ≡ Some a → HoldsUnder P entries (key side a) mask
+
 -- the values were added to
 abbrev pub AddsValues : List ℕ → List ℕ → Type 0
 AddsValues old new = (v : ℕ) → Contains old v → Contains new v
 
 -- all that is filed under the key with a mask within this one is among the values
 abbrev pub HasValues : List Entry → ℕ → ℕ → List ℕ → Type 0
-HasValues entries key mask values = (y : ℕ) (e : Entry) → numbered entries y ≡ Some e → e.key ≡ key → is_within e.mask mask ≡ true → Contains values e.value
+HasValues entries key mask values = HoldsUnder (Contains values) entries key mask
 
 -- all that is filed under the key of one of the atoms
 abbrev pub HaveValues : List Entry → ℕ → List Atom → ℕ → List ℕ → Type 0
-HaveValues entries side atoms mask values = (k : ℕ) (a : Atom) → slice_get atoms k ≡ Some a → HasValues entries (key side a) mask values
+HaveValues entries side atoms mask values = HoldUnder (Contains values) entries side atoms mask
 
 -- ---- clauses that can resolve
 

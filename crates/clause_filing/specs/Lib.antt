@@ -1,2 +1,3 @@
+pub mod FilingLaws
 pub mod Filings
 pub mod Links

@@ -58,14 +58,14 @@ impl Filing {
     }
 
     /// The number of the last entry of the key, from 1; 0 where there is none.
-    fn newest(&self, key: u64) -> u32
+    pub fn newest(&self, key: u64) -> u32
         ensures { IsNewest self.now key (length self.now) result }
     {
         self.newest.get(&key).copied().unwrap_or(0)
     }
 
     /// The entry with this number, from 1; none where there is none.
-    fn entry(&self, number: u32) -> Option<&Entry>
+    pub fn entry(&self, number: u32) -> Option<&Entry>
         ensures is { option_copied result ≡ numbered self.now number }
         ensures linked { (e : Entry) → numbered self.now number ≡ Some e → IsNewest self.now e.key (number - 1) e.older }
     {

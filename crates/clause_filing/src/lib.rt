@@ -8,3 +8,4 @@ mod filing;
 mod keys;
 
 pub use filing::{Entry, Filing};
+pub use keys::{AFTER_ARROW, BEFORE_ARROW, clause_mask, is_within, key};

@@ -1,7 +1,6 @@
-use Rattle.std.proofs.Common.{◌≡◌, ◌∙◌, true, false, Some, None, sym, ap, subst}
-use Rattle.std.specs.Prelude.{option_copied}
+use Rattle.std.proofs.Common.{◌≡◌, ◌∙◌, Some, sym, ap, subst}
 use Rattle.spl_terms.specs.Lists.{numbered}
-use Rattle.clause_filing.proofs.Finding.{IsAdding, adding_starts, adding_one, adding_none, adding_ends, older_below}
+use Rattle.clause_filing.proofs.Finding.{IsAdding, adding_starts, adding_one, adding_none}
 use Rattle.clause_filing.proofs.filing.Filing.add_values.Goals as goal
 use Rattle.clause_filing.proofs.filing.Filing.add_values.Goals.{then-is_within+in_ok-push, else-is_within}
 

@@ -1,5 +1,5 @@
 use Rattle.std.proofs.Common.{sym, arith}
-use Rattle.clause_filing.proofs.Entries.{some_last, stays_below}
+use Rattle.clause_filing.proofs.Entries.{stays_below}
 use Rattle.clause_filing.proofs.filing.Filing.drop_from.Goals as goal
 
 pub loop-last-preserved : goal.loop-last-preserved

@@ -1,5 +1,4 @@
-use Rattle.std.proofs.Common.{◌≡◌, ◌∙◌, ◌-◌, Some, ap, subst}
-use Rattle.clause_filing.specs.declared.filing.Entry.{Entry}
+use Rattle.std.proofs.Common.{◌≡◌, ◌∙◌, ◌-◌, ap, subst}
 use Rattle.spl_terms.specs.Lists.{numbered}
 use Rattle.clause_filing.specs.Filings.{IsNewest}
 use Rattle.clause_filing.proofs.filing.Filing.entry.Goals as goal

@@ -1,5 +1,5 @@
-use Rattle.clause_filing.proofs.Entries.{keeps_added, filed_added}
-use Rattle.clause_filing.specs.Filings.{clause_key, clause_mask}
+use Rattle.clause_filing.proofs.Entries.{filed_added}
+use Rattle.clause_filing.specs.Filings.{clause_mask}
 use Rattle.std.proofs.Common.{subst}
 use Rattle.clause_filing.specs.Filings.{IsFiled}
 use Rattle.clause_filing.proofs.filing.Filing.file_clause.Goals as goal
