@@ -1,5 +1,5 @@
 -- Facts about symbols that are counted through bindings, and about conclusions with a vast atom.
-use Rattle.std.proofs.Common.{◌≡◌, ◌⊎◌, inl, inr, ℕ, zero, suc, ◌+◌, ◌<◌, ◌≤◌, Bool, true, false, if◌then◌else◌, List, [], ◌∷◌, ◌++◌, map, take, drop, fold, get_or, length, sum, sum_by, Option, Some, refl, sym, ap, subst, ◌∙◌, arith, append-nil}
+use Rattle.std.proofs.Common.{◌≡◌, ◌⊎◌, inl, inr, ℕ, zero, suc, ◌+◌, ◌<◌, ◌≤◌, Bool, true, false, if◌then◌else◌, List, [], ◌∷◌, ◌++◌, map, take, drop, remove, fold, get_or, length, sum, sum_by, Option, Some, refl, sym, ap, subst, ◌∙◌, arith, append-nil}
 use Rattle.std.specs.Prelude.{slice_get, unwrap_or, min, nat_lt}
 use Rattle.std.specs.List.{list_any}
 use Rattle.std.proofs.lemmas.List.{map-append}
@@ -22,7 +22,8 @@ use Rattle.spl_truth.specs.EntryLaws.{length-entries_below}
 use Rattle.spl_truth.specs.InstanceLaws.{sum-maps, symbols-replace-App}
 use Rattle.spl_truth.specs.Unifiers.{entries_below}
 use Rattle.proof_steps.specs.declared.step.Line.{Line}
-use Rattle.proof_steps.specs.Steps.{joined}
+use Rattle.proof_steps.specs.Spots.{changed_at, with_part}
+use Rattle.proof_steps.specs.Steps.{without, joined}
 use Rattle.unify.specs.Bindings.{substitution}
 use Rattle.superposition.specs.declared.error.InferError.{InferError}
 use Rattle.superposition.specs.declared.error.InferError.TheVariants.{Big, Memory}
@@ -116,6 +117,30 @@ vast_first x y h = record { part = h.part; atom = subst HasVastAtom (part_joined
 
 pub vast_second : (x y : Clause) → IsVast y → IsVast (joined x y)
 vast_second x y h = record { part = h.part; atom = subst HasVastAtom (part_joined x y h.part) (vast_behind (part_of x h.part) (part_of y h.part) h.atom) }
+
+others_changed : (f : Atom → Atom) (xs : List Atom) (k : ℕ) → HasVastAtom (remove xs k) → HasVastAtom (changed_at k f xs)
+others_changed f [] zero h = absurd h
+others_changed f [] (suc k) h = absurd h
+others_changed f (x ∷ xs) zero h = inr h
+others_changed f (x ∷ xs) (suc k) h = elim h [
+  | inl here ↦ inl here
+  | inr more ↦ inr (others_changed f xs k more)
+]
+
+-- another atom stands where one of a part is changed
+pub vast_changed : (part : Part) (k : ℕ) (f : Atom → Atom) (x : Clause) → IsVast (without part k x) → IsVast (with_part (changed_at k f) part x)
+vast_changed part k f x h = record { part = h.part; atom = kept part h.part h.atom }
+  where
+    kept : (part of : Part) → HasVastAtom (part_of (without part k x) of) → HasVastAtom (part_of (with_part (changed_at k f) part x) of)
+    kept Constraint Constraint h = others_changed f x.constraint k h
+    kept Constraint Antecedent h = h
+    kept Constraint Succedent h = h
+    kept Antecedent Constraint h = h
+    kept Antecedent Antecedent h = others_changed f x.antecedent k h
+    kept Antecedent Succedent h = h
+    kept Succedent Constraint h = h
+    kept Succedent Antecedent h = h
+    kept Succedent Succedent h = others_changed f x.succedent k h
 
 -- ---- a vast atom is not lost where repeated ones are dropped
 

@@ -3,11 +3,14 @@ use Rattle.std.specs.Prelude.{◌≡◌, ℕ, ◌<◌, ◌≤◌, ⊤, ◌⊎◌
 use Rattle.spl_terms.specs.declared.term.Term.{Term}
 use Rattle.spl_terms.specs.declared.atom.Atom.{Atom}
 use Rattle.spl_terms.specs.declared.clause.Part.{Part}
+use Rattle.spl_terms.specs.declared.clause.Spot.{Spot}
 use Rattle.spl_terms.specs.declared.clause.Clause.{Clause}
+use Rattle.spl_terms.specs.Terms.{replace}
 use Rattle.spl_terms.specs.Clauses.{atom_symbols, part_of}
 use Rattle.spl_terms.specs.declared.clause.Part.TheVariants.{Succedent}
-use Rattle.spl_truth.specs.Truth.{apply}
+use Rattle.spl_truth.specs.Truth.{entry, apply}
 use Rattle.spl_truth.specs.Unifiers.{entries_below}
+use Rattle.proof_steps.specs.Spots.{with_term_at}
 use Rattle.proof_steps.specs.Steps.{without, joined}
 use Rattle.calculus.specs.Inferences.{clause_of}
 use Rattle.superposition.specs.declared.building.Literals.{Literals}
@@ -44,3 +47,8 @@ pub record StandIn (pair : Pair) (literals : Literals) : Type 0 where
 abbrev pub resolvent_by : Pair → Literals → List Term → Clause
 resolvent_by pair literals u =
     joined (apply (take pair.first u) (without Succedent literals.i (clause_of pair.p.now))) (apply (drop pair.first u) (without literals.part literals.j (clause_of pair.q.now)))
+
+-- the paramodulant by a unifier, before it is brought into order
+abbrev pub paramodulant_by : Pair → ℕ → Spot → Term → List Term → Clause
+paramodulant_by pair i spot by u =
+    joined (apply (take pair.first u) (without Succedent i (clause_of pair.p.now))) (with_term_at spot (replace (entry (take pair.first u)) by) (apply (drop pair.first u) (clause_of pair.q.now)))

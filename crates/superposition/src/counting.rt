@@ -1,14 +1,16 @@
 //! Whether a conclusion has an atom of 1,000,000 symbols or more, before its unifier is written out from the bindings.
-ghost use Rattle.std.specs.Prelude.{◌≡◌, ◌≤◌, ◌<◌, min, map, drop, length, sum_by};
+ghost use Rattle.std.specs.Prelude.{◌≡◌, ℕ, List, ◌≤◌, ◌<◌, min, map, drop, length, sum_by};
 ghost use Rattle.std.specs.Bool.{OnTrue};
 ghost use Rattle.spl_terms.specs.Terms.{term_symbols, replace};
 ghost use Rattle.spl_terms.specs.Clauses.{atom_symbols, replace_in_atom, part_of};
+ghost use Rattle.spl_terms.specs.declared.term.Term.{Term};
+ghost use Rattle.calculus.specs.Inferences.{clause_of};
 ghost use Rattle.spl_truth.specs.Truth.{entry, apply};
 ghost use Rattle.proof_steps.specs.Steps.{without};
 ghost use Rattle.unify.specs.Bindings.{substitution, IsTriangular};
 ghost use Rattle.spl_truth.specs.Unifiers.{entries_below};
 ghost use Rattle.superposition.specs.Pairs.{IsPair};
-ghost use Rattle.superposition.specs.Vast.{entries_from, HasVastAtom, IsVast, StandIn, resolvent_by};
+ghost use Rattle.superposition.specs.Vast.{entries_from, HasVastAtom, IsVast, StandIn, resolvent_by, paramodulant_by};
 
 use crate::building::{Literals, left_of};
 use crate::pairs::Pair;
@@ -165,4 +167,28 @@ pub(crate) fn is_resolvent_vast<'a>(bindings: &Bindings<'a>, pair: Pair, literal
         return true;
     }
     is_rest_vast(bindings, first, pair.both, (q, literals.part, literals.j))
+}
+
+/// Whether an atom of the paramodulant other than the one at the spot has 1,000,000 symbols or more.
+pub(crate) fn is_paramodulant_vast<'a>(
+    bindings: &Bindings<'a>,
+    pair: Pair,
+    i: u32,
+    part: Part,
+    place: u32,
+) -> bool
+    requires triangular { IsTriangular bindings.now.0 bindings.now.1 }
+    requires pair { IsPair pair }
+    requires i { i < length (clause_of pair.p.now).succedent }
+    requires place { place < length (part_of (clause_of pair.q.now) part) }
+    ensures { (path : List ℕ) (by : Term) → OnTrue result (IsVast
+        (paramodulant_by pair.entry i (record { part = part; place = place; path = path }) by
+        (entries_below pair.entry.both (substitution bindings.now.1)))) }
+{
+    let p = &pair.p.statement.clause;
+    let q = &pair.q.statement.clause;
+    if is_rest_vast(bindings, 0, pair.first, (p, Part::Succedent, i)) {
+        return true;
+    }
+    is_rest_vast(bindings, pair.first, pair.both, (q, part, place))
 }
