@@ -1,4 +1,4 @@
-use Rattle.std.proofs.Common.{◌≡◌, ◌+◌, ◌≤◌, drop, sum_by}
+use Rattle.std.proofs.Common.{◌+◌, ◌≤◌, drop, sum_by}
 use Rattle.spl_terms.specs.Terms.{term_symbols, replace}
 use Rattle.spl_truth.specs.Truth.{entry}
 use Rattle.superposition.specs.Vast.{entries_from}

@@ -1,4 +1,4 @@
-use Rattle.std.proofs.Common.{◌≡◌, ◌≤◌, ◌<◌, ◌+◌, min, sym, ap, subst, arith}
+use Rattle.std.proofs.Common.{◌≤◌, ◌<◌, ◌+◌, min, sym, ap, subst, arith}
 use Rattle.spl_terms.specs.Terms.{term_symbols}
 use Rattle.superposition.proofs.Counted.{entry_there}
 use Rattle.superposition.proofs.counting.entry_symbols.Goals as goal
