@@ -9,3 +9,4 @@ pub mod Alone
 pub mod Walked
 pub mod Skipped
 pub mod Instances
+pub mod Counted

@@ -95,7 +95,7 @@ fn around(atoms: &[Atom], place: usize) -> (&[Atom], &[Atom])
 }
 
 /// What is left of this part once the atom at this place of another one, or of this one, is taken out.
-fn left_of(clause: &Clause, of: Part, part: Part, place: usize) -> (&[Atom], &[Atom])
+pub(crate) fn left_of(clause: &Clause, of: Part, part: Part, place: usize) -> (&[Atom], &[Atom])
     requires { place < length (part_of clause.now part) }
     ensures { result.0.now ++ result.1.now ≡ part_of (without part place clause.now) of }
 {

@@ -6,6 +6,7 @@
 
 mod appending;
 mod building;
+mod counting;
 mod equations;
 mod error;
 mod inferring;

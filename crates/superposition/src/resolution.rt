@@ -56,10 +56,14 @@ fn resolve(
     if !is_negative(part) {
         return Ok(());
     }
-    let Some((s, t)) = unifier_apart(alloc, pair, a, b)? else {
+    let literals = Literals { i, part, j };
+    let found = match unifier_apart(alloc, pair, literals, a, b) {
+        Ok(found) => found,
+        Err(error) => return Err(error),
+    };
+    let Some((s, t)) = found else {
         return Ok(());
     };
-    let literals = Literals { i, part, j };
     let (p, q) = (&pair.p.statement.clause, &pair.q.statement.clause);
     let made = resolvent_of(alloc, literals, (p, &s), (q, &t))?;
     let rule = Rule::Resolve { i, part, j, s, t };

@@ -1,5 +1,5 @@
 //! Superposition: an equation of one premise at the subterms of another.
-ghost use Rattle.std.specs.Prelude.{◌≡◌, ℕ, List, ◌≤◌, ◌∷◌, ◌++◌, [], map, Some, slice_get, IfOk, OnOk};
+ghost use Rattle.std.specs.Prelude.{◌≡◌, ℕ, List, ◌≤◌, ◌∷◌, ◌++◌, [], map, Some, slice_get, IfOk, IfErr, OnOk};
 ghost use Rattle.std.specs.List.{flat_map, enumerate_from};
 ghost use Rattle.spl_terms.specs.declared.term.Term.{Term};
 ghost use Rattle.spl_terms.specs.declared.atom.Atom.TheVariants.{Equal};
@@ -16,6 +16,7 @@ ghost use Rattle.superposition.specs.Appending.{Appended};
 ghost use Rattle.superposition.specs.Words.{AreInPlace};
 ghost use Rattle.superposition.specs.Pairs.{IsPair, AreRestrictions, raised};
 ghost use Rattle.superposition.specs.Readings.{reading_of};
+ghost use Rattle.superposition.specs.Vast.{IsVastOrMemory, paramodulant_by};
 ghost use Rattle.superposition.specs.Premises.{IsFound};
 ghost use Rattle.superposition.specs.Walks.{IsUsable, AreUsable, IsReady, IsUpperAt, IsSide};
 ghost use Rattle.superposition.specs.Walks.{superpose_in, superpose_lent, superpose_in_parts};
@@ -23,6 +24,7 @@ ghost use Rattle.superposition.specs.Walks.{rewrite, rewrite_below, rewrite_argu
 
 use crate::appending::append_from_both;
 use crate::building::paramodulant_of;
+use crate::counting::is_paramodulant_vast;
 use crate::equations::Equation;
 use crate::error::InferError;
 use crate::ordering::{Standing, standings};
@@ -86,21 +88,28 @@ fn is_path_upper<'a>(
 }
 
 /// The unifier of the left side and this term, which stands at the end of the path, where they have one that keeps the
-/// order: the left side isn't below the right one, and the path lies in an upper side.
+/// order: the left side isn't below the right one, and the path lies in an upper side. Nothing is written out where
+/// an atom of the paramodulant would have 1,000,000 symbols or more.
 fn unifier_in_order(
     alloc: Global,
     r: Rewriting,
     path: &[u32],
     term: &Term,
-) -> Result<Option<(Subst, Subst)>, AllocError>
+) -> Result<Option<(Subst, Subst)>, InferError>
     requires ready { IsReady r }
     requires stands { term_under path.now (renamed_apart r.pair.p.now r.atom.now)
         ≡ Some (raised r.pair.first term.now) }
     requires below { HasVariablesBelow r.pair.both (raised r.pair.first term.now) }
     requires upper { IsUpperAt r path.now }
-    ensures { IfOk result (AreRestrictions r.entry.pair.first
+    ensures ok { IfOk result (AreRestrictions r.entry.pair.first
         (rewriting_unifier r.entry.pair.both (reading_of r.entry.equation)
         (renamed_apart r.entry.pair.p.now r.entry.atom.now) path.now)) }
+    ensures err { IfErr result (IsVastOrMemory
+        (rewriting_unifier r.entry.pair.both (reading_of r.entry.equation)
+        (renamed_apart r.entry.pair.p.now r.entry.atom.now) path.now)
+        (paramodulant_by r.entry.pair r.entry.equation.place
+        (record { part = r.entry.part; place = r.entry.place; path = path.now })
+        r.entry.equation.right_side.now)) }
 {
     laws::unifier_is_most_general();
     let (pair, e) = (r.pair, r.equation);
@@ -118,6 +127,9 @@ fn unifier_in_order(
     let upper = is_path_upper(alloc, &bindings, r, path)?;
     if !upper {
         return Ok(None);
+    }
+    if is_paramodulant_vast(&bindings, pair, e.place, r.part, r.place) {
+        return Err(InferError::Big { symbols: 1_000_000 });
     }
     let both = restrictions(alloc, &bindings, pair)?;
     Ok(Some(both))
@@ -140,7 +152,11 @@ fn superpose(
     ensures { Appended (rewrite r.entry path.now) out.old.items out.new.items result }
 {
     no_unifier_is_lost();
-    let Some((s, t)) = unifier_in_order(alloc, r, path, term)? else {
+    let found = match unifier_in_order(alloc, r, path, term) {
+        Ok(found) => found,
+        Err(error) => return Err(error),
+    };
+    let Some((s, t)) = found else {
         return Ok(());
     };
     let (pair, e, part, place) = (r.pair, r.equation, r.part, r.place);

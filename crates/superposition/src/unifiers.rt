@@ -1,5 +1,5 @@
 //! Unifiers of atoms and of equations, found as bindings and written out once they are wanted.
-ghost use Rattle.std.specs.Prelude.{◌≡◌, ◌≤◌, ◌&&◌, map, drop, option_map, option_and_then, IfOk, Some};
+ghost use Rattle.std.specs.Prelude.{◌≡◌, ◌≤◌, ◌&&◌, map, drop, option_map, option_and_then, IfOk, IfErr, Some};
 ghost use Rattle.spl_terms.specs.declared.term.Symbol.{Symbol};
 ghost use Rattle.spl_terms.specs.declared.term.Term.{App};
 ghost use Rattle.spl_truth.specs.Unifiers.{HasVariablesBelow, HaveVariablesBelow, entries_below, unifier};
@@ -7,7 +7,11 @@ ghost use Rattle.calculus.specs.Inferences.{atom_unifier, sides_unifier, renamed
 ghost use Rattle.unify.specs.Bindings.{substitution, IsTriangular};
 ghost use Rattle.superposition.specs.Words.{IsAtomBelow};
 ghost use Rattle.superposition.specs.Pairs.{IsPair, AreRestrictions, raised};
+ghost use Rattle.superposition.specs.Vast.{IsVastOrMemory, StandIn, resolvent_by};
 
+use crate::building::Literals;
+use crate::counting::is_resolvent_vast;
+use crate::error::InferError;
 use crate::pairs::Pair;
 use crate::raising::all_raised;
 use spl_terms::{Atom, Items, Term};
@@ -69,14 +73,19 @@ pub(crate) fn restrictions<'a>(
 fn unifier_of_arguments_apart(
     alloc: Global,
     pair: Pair,
+    literals: Literals,
     args: &[Term],
     others: &[Term],
-) -> Result<Option<(Subst, Subst)>, AllocError>
+) -> Result<Option<(Subst, Subst)>, InferError>
     requires pair { IsPair pair }
+    requires literals { StandIn pair literals }
     requires args_below { HaveVariablesBelow pair.both args.now }
     requires others_below { HaveVariablesBelow pair.both (map (raised pair.first) others.now) }
-    ensures { (head : Symbol) → IfOk result (AreRestrictions pair.entry.first
+    ensures ok { (head : Symbol) → IfOk result (AreRestrictions pair.entry.first
         (unifier pair.entry.both (App head args.now) (App head (map (raised pair.entry.first) others.now)))) }
+    ensures err { (head : Symbol) → IfErr result (IsVastOrMemory
+        (unifier pair.entry.both (App head args.now) (App head (map (raised pair.entry.first) others.now)))
+        (resolvent_by pair.entry literals)) }
 {
     laws::unifier_is_most_general();
     if !all_fit(args, others) {
@@ -86,23 +95,31 @@ fn unifier_of_arguments_apart(
     let Some(bindings) = unify_arguments_bound(alloc, args, higher.as_slice(), pair.both)? else {
         return Ok(None);
     };
+    if is_resolvent_vast(&bindings, pair, literals) {
+        return Err(InferError::Big { symbols: 1_000_000 });
+    }
     let both = restrictions(alloc, &bindings, pair)?;
     Ok(Some(both))
 }
 
 /// The unifier of two predicate atoms, where the variables of the second one are raised, if they have one. Their heads
-/// are compared first.
+/// are compared first. Nothing is written out where an atom of the resolvent would have 1,000,000 symbols or more.
 pub(crate) fn unifier_apart(
     alloc: Global,
     pair: Pair,
+    literals: Literals,
     a: &Atom,
     b: &Atom,
-) -> Result<Option<(Subst, Subst)>, AllocError>
+) -> Result<Option<(Subst, Subst)>, InferError>
     requires pair { IsPair pair }
+    requires literals { StandIn pair literals }
     requires a_below { IsAtomBelow pair.both a.now }
     requires b_below { IsAtomBelow pair.both (renamed_apart pair.p.now b.now) }
-    ensures { IfOk result (AreRestrictions pair.entry.first
+    ensures ok { IfOk result (AreRestrictions pair.entry.first
         (atom_unifier pair.entry.both a.now (renamed_apart pair.entry.p.now b.now))) }
+    ensures err { IfErr result (IsVastOrMemory
+        (atom_unifier pair.entry.both a.now (renamed_apart pair.entry.p.now b.now))
+        (resolvent_by pair.entry literals)) }
 {
     laws::unifier_is_most_general();
     match (a, b) {
@@ -110,7 +127,7 @@ pub(crate) fn unifier_apart(
             if !head.same(*other) {
                 return Ok(None);
             }
-            unifier_of_arguments_apart(alloc, pair, args.as_slice(), others.as_slice())
+            unifier_of_arguments_apart(alloc, pair, literals, args.as_slice(), others.as_slice())
         }
         _ => Ok(None),
     }

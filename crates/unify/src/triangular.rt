@@ -125,6 +125,18 @@ impl<'a> Bindings<'a> {
         symbols_up_to(self, term, limit)
     }
 
+    /// How many symbols what the variable stands for has, as `instance_symbols` counts them; an unbound variable stands
+    /// for itself.
+    pub fn entry_symbols(&self, variable: u32, limit: u64) -> u64
+        requires { IsTriangular self.now.0 self.now.1 }
+        ensures { result ≡ min (term_symbols (substitution self.now.1 variable)) limit }
+    {
+        match self.get(variable) {
+            Some(term) => symbols_up_to(self, term, limit),
+            None => limit.min(1),
+        }
+    }
+
     /// How many symbols the terms have together with the bindings applied, or the limit where there are as many or
     /// more, as `instance_symbols` counts them.
     pub fn instance_symbols_in_terms(&self, terms: &'a [Term], limit: u64) -> u64

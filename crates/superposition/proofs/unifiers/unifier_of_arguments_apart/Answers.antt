@@ -1,8 +1,10 @@
-use Rattle.std.proofs.Common.{◌≡◌, ◌∙◌, map, Some, None, sym, subst}
+use Rattle.std.proofs.Common.{◌≡◌, ◌∙◌, List, map, Some, None, refl, sym, subst}
+use Rattle.std.proofs.lemmas.Bool.{OnTrue_at}
 use Rattle.spl_terms.specs.declared.term.Kind.TheVariants.{Function}
 use Rattle.spl_terms.specs.declared.term.Symbol.{Symbol}
-use Rattle.spl_terms.specs.declared.term.Term.{App}
-use Rattle.spl_truth.specs.Unifiers.{HaveVariablesBelow, unifier}
+use Rattle.spl_terms.specs.declared.term.Term.{Term, App}
+use Rattle.spl_truth.specs.Unifiers.{HaveVariablesBelow, entries_below, unifier}
+use Rattle.unify.specs.Bindings.{substitution}
 use Rattle.superposition.specs.Pairs.{AreRestrictions, raised}
 use Rattle.superposition.proofs.Bound.{bound_none, bound_triangular, bound_is}
 use Rattle.superposition.proofs.Unified.{arguments_apart}
@@ -11,8 +13,8 @@ use Rattle.superposition.proofs.unifiers.unifier_of_arguments_apart.Goals as goa
 any_symbol : Symbol
 any_symbol = record { number = 0; kind = Function }
 
-pub returns-then-not-all_fit : goal.returns-then-not-all_fit
-returns-then-not-all_fit c = λ head. sym (arguments_apart c.unifier_is_most_general.ensures c.args.pair.both c.args.pair.first c.args.args.now c.args.others.now c.requires.args_below c.requires.others_below (sym c.all_fit.ensures ∙ c.if-not-all_fit.true) head)
+pub returns-then-not-all_fit-clause-ok : goal.returns-then-not-all_fit-clause-ok
+returns-then-not-all_fit-clause-ok c = λ head. sym (arguments_apart c.unifier_is_most_general.ensures c.args.pair.both c.args.pair.first c.args.args.now c.args.others.now c.requires.args_below c.requires.others_below (sym c.all_fit.ensures ∙ c.if-not-all_fit.true) head)
 
 pub unify_arguments_bound-requires-clause-right_below : goal.unify_arguments_bound-requires-clause-right_below
 unify_arguments_bound-requires-clause-right_below c = subst (HaveVariablesBelow c.args.pair.both) (sym (c.as_slice.ensures ∙ c.in_ok-higher.ensures)) c.requires.others_below
@@ -20,14 +22,26 @@ unify_arguments_bound-requires-clause-right_below c = subst (HaveVariablesBelow 
 pub restrictions-requires-clause-triangular : goal.restrictions-requires-clause-triangular
 restrictions-requires-clause-triangular c = bound_triangular c.args.pair.both (App any_symbol c.args.args.now) (App any_symbol c.as_slice.result.now) _ (c.in_ok-bindings.ensures.exact any_symbol) _ c.in-Some.is
 
-pub returns-in_default : goal.returns-in_default
-returns-in_default c = λ head.
+pub returns-in_default-clause-ok : goal.returns-in_default-clause-ok
+returns-in_default-clause-ok c = λ head.
     let all : c.as_slice.result.now ≡ map (raised c.args.pair.first) c.args.others.now = c.as_slice.ensures ∙ c.in_ok-higher.ensures in
     subst (λ l. unifier c.args.pair.both (App head c.args.args.now) (App head l) ≡ None) all
     (sym (bound_none c.args.pair.both (App head c.args.args.now) (App head c.as_slice.result.now) _ (c.in_ok-bindings.ensures.exact head) c.in_default.is))
 
-pub returns : goal.returns
-returns c = λ head.
+pub returns-clause-ok : goal.returns-clause-ok
+returns-clause-ok c = λ head.
     let all : c.as_slice.result.now ≡ map (raised c.args.pair.first) c.args.others.now = c.as_slice.ensures ∙ c.in_ok-higher.ensures in
     subst (λ l. AreRestrictions c.args.pair.first (unifier c.args.pair.both (App head c.args.args.now) (App head l)) (Some c.in_ok-both.both)) all
     (subst (λ o. AreRestrictions c.args.pair.first o (Some c.in_ok-both.both)) (sym (bound_is c.args.pair.both (App head c.args.args.now) (App head c.as_slice.result.now) _ (c.in_ok-bindings.ensures.exact head) c.in-Some.bindings c.in-Some.is)) c.in_ok-both.ensures)
+
+pub is_resolvent_vast-requires-clause-triangular : goal.is_resolvent_vast-requires-clause-triangular
+is_resolvent_vast-requires-clause-triangular c = bound_triangular c.args.pair.both (App any_symbol c.args.args.now) (App any_symbol c.as_slice.result.now) _ (c.in_ok-bindings.ensures.exact any_symbol) _ c.in-Some.is
+
+pub returns-then-is_resolvent_vast-clause-err : goal.returns-then-is_resolvent_vast-clause-err
+returns-then-is_resolvent_vast-clause-err c = λ head.
+    let bs = c.in-Some.bindings in
+    let u : List Term = entries_below c.args.pair.both (substitution bs.1) in
+    let all : c.as_slice.result.now ≡ map (raised c.args.pair.first) c.args.others.now = c.as_slice.ensures ∙ c.in_ok-higher.ensures in
+    let unified : unifier c.args.pair.both (App head c.args.args.now) (App head (map (raised c.args.pair.first) c.args.others.now)) ≡ Some u =
+    subst (λ l. unifier c.args.pair.both (App head c.args.args.now) (App head l) ≡ Some u) all (bound_is c.args.pair.both (App head c.args.args.now) (App head c.as_slice.result.now) _ (c.in_ok-bindings.ensures.exact head) bs c.in-Some.is) in
+    (u, unified, refl, OnTrue_at c.if-is_resolvent_vast.true c.is_resolvent_vast.ensures)
