@@ -22,8 +22,8 @@ use Rattle.calculus.specs.Inferences.{clause_of, eligible_in, renamed_apart, var
 -- ---- each inference is what its step concludes
 
 -- the line states what its step concludes
-abbrev pub IsStated : List Clause → List Statement → Line → Type 0
-IsStated input earlier l = conclude input earlier l.step ≡ Some l.stated
+abbrev pub StatesConclusion : List Clause → List Statement → Line → Type 0
+StatesConclusion input earlier l = conclude input earlier l.step ≡ Some l.stated
 
 module _ {X : Type 0} (P : X → Type 0) where
   all_append : (xs ys : List X) → AllByRecursion P xs → AllByRecursion P ys → AllByRecursion P (xs ++ ys)
@@ -36,7 +36,7 @@ all_flat_map P f h (x ∷ xs) = all_append P (f x) (flat_map f xs) (h x) (all_fl
 
 module _ (input : List Clause) (earlier : List Statement) where
   abbrev AreStated : List Line → Type 0
-  AreStated = AllByRecursion (IsStated input earlier)
+  AreStated = AllByRecursion (StatesConclusion input earlier)
 
   stated_if : (rule : Rule) (parents : List ℕ) (o : Option Statement) → conclude input earlier (record { rule = rule; parents = parents }) ≡ o → AreStated (option_to_list (option_map (λ s. record { step = record { rule = rule; parents = parents }; stated = s }) o))
   stated_if rule parents None e = tt
@@ -53,13 +53,13 @@ module _ (input : List Clause) (earlier : List Statement) where
     superpose_stated i right spot (Some u) = stated_if (Paramodulate i right spot (first_part p u) (second_part p u)) (p.number ∷ q.number ∷ []) _ (λ k. of_two (from_two (paramodulation i right spot (first_part p u).terms (second_part p u).terms)) (has_p k) (has_q k))
 
     resolutions_stated : (part : Part) → AreStated (resolutions part p q)
-    resolutions_stated part = all_flat_map (IsStated input earlier) _ (λ a. all_flat_map (IsStated input earlier) (resolve part p q a) (λ b. resolve_stated a.0 part b.0 (atom_unifier (variables_of_both p q) a.1 (renamed_apart p b.1))) (eligible_in q part)) (eligible_in p Succedent)
+    resolutions_stated part = all_flat_map (StatesConclusion input earlier) _ (λ a. all_flat_map (StatesConclusion input earlier) (resolve part p q a) (λ b. resolve_stated a.0 part b.0 (atom_unifier (variables_of_both p q) a.1 (renamed_apart p b.1))) (eligible_in q part)) (eligible_in p Succedent)
 
     superpositions_stated : AreStated (superpositions p q)
-    superpositions_stated = all_flat_map (IsStated input earlier) _ (λ e. all_flat_map (IsStated input earlier) (superpose p q e) (λ spot. superpose_stated e.place e.right spot _) (spots_of q)) (equations_of p)
+    superpositions_stated = all_flat_map (StatesConclusion input earlier) _ (λ e. all_flat_map (StatesConclusion input earlier) (superpose p q e) (λ spot. superpose_stated e.place e.right spot _) (spots_of q)) (equations_of p)
 
     from_to_stated : AreStated (from_to p q)
-    from_to_stated = all_append (IsStated input earlier) (resolutions Antecedent p q) (superpositions p q) (resolutions_stated Antecedent) superpositions_stated
+    from_to_stated = all_append (StatesConclusion input earlier) (resolutions Antecedent p q) (superpositions p q) (resolutions_stated Antecedent) superpositions_stated
 
   -- of one premise
   module _ (p : Kept) (has_p : numbered earlier p.number ≡ Some p.statement) where
@@ -77,19 +77,19 @@ module _ (input : List Clause) (earlier : List Statement) where
 
     own_stated : AreStated (own_inferences p)
     own_stated =
-        let P = IsStated input earlier in
+        let P = StatesConclusion input earlier in
         let fac : AreStated (factorings p) = all_flat_map P _ (λ a. all_flat_map P _ (λ b. factor_stated _) (other_atoms a.0 p)) (eligible_in p Succedent) in
         let ref : AreStated (reflections p) = all_flat_map P _ (λ a. reflex_stated a.0 _) (eligible_in p Antecedent) in
         let eqf : AreStated (equality_factorings p) = all_flat_map P _ (λ e. all_flat_map P (factor_equation p e) (λ d. equality_factor_stated e.place e.right d.place d.right _) (flat_map readings (other_atoms e.place p))) (equations_of p) in
         all_append P (from_to p p ++ factorings p ++ reflections p) (equality_factorings p) (all_append P (from_to p p ++ factorings p) (reflections p) (all_append P (from_to p p) (factorings p) (from_to_stated p p has_p has_p) fac) ref) eqf
 
   -- each inference states what its step concludes, wherever the premises have their numbers
-  pub inferences_stated : (given other : Kept) → numbered earlier given.number ≡ Some given.statement → numbered earlier other.number ≡ Some other.statement → AllByRecursion (IsStated input earlier) (inferences given other)
+  pub inferences_stated : (given other : Kept) → numbered earlier given.number ≡ Some given.statement → numbered earlier other.number ≡ Some other.statement → AllByRecursion (StatesConclusion input earlier) (inferences given other)
   inferences_stated given other h k = by_test (given.number == other.number)
     where
       both : AreStated (pair_inferences given other ++ sort_steps given other)
       both =
-          let P = IsStated input earlier in
+          let P = StatesConclusion input earlier in
           all_append P (pair_inferences given other) (sort_steps given other)
           (all_append P (from_to given other) (from_to other given) (from_to_stated given other h k) (from_to_stated other given k h))
           (all_append P (resolutions Constraint given other) (resolutions Constraint other given) (resolutions_stated given other h k Constraint) (resolutions_stated other given k h Constraint))
