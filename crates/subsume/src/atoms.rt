@@ -28,8 +28,8 @@ pub(crate) struct AtomToMap<'a> {
 
 /// Goes on from the bindings so far to such that make the two targets of the two patterns.
 fn match_both<'a>(
-    one: &Term,
-    other: &Term,
+    one: &'a Term,
+    other: &'a Term,
     to_one: &'a Term,
     to_other: &'a Term,
     found: &mut Bindings<'a>,
@@ -52,7 +52,7 @@ fn match_both<'a>(
 /// Goes on from the bindings so far to such that make the target of the pattern, with the sides of an equation exchanged
 /// where `turned` says so. No variable of the target is bound for standing in it.
 pub(crate) fn match_atom<'a>(
-    pattern: &Atom,
+    pattern: &'a Atom,
     target: &'a Atom,
     turned: bool,
     found: &mut Bindings<'a>,
