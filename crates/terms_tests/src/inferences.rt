@@ -12,7 +12,7 @@ use std::alloc::{AllocError, Global};
 use superposition::{InferError, infer_pair, infer_self};
 
 /// The clause of a text in order.
-fn ordered(alloc: Global, text: &str) -> Result<Clause, AllocError>
+pub(crate) fn ordered(alloc: Global, text: &str) -> Result<Clause, AllocError>
     ensures { IfOk result (λ made. IsInOrder made) }
 {
     clause(alloc, text)?.into_ordered(alloc)

@@ -9,6 +9,7 @@ mod order;
 mod parts;
 mod sets;
 mod steps;
+mod subsumption;
 mod unifiers;
 
 use clause_texts::Row;
@@ -61,6 +62,7 @@ fn is_right(alloc: Global, row: &Row) -> Result<bool, AllocError> {
         "large" => inferences::large(alloc, row),
         "sorts" => inferences::sorts(alloc, row),
         "unsolved" => inferences::unsolved(alloc, row),
+        "subsumes" => subsumption::subsumed(alloc, row),
         "proof" => steps::proof(alloc, row),
         _ => is_right_beside(alloc, row),
     }

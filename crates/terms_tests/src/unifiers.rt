@@ -9,7 +9,11 @@ use unify::{
 };
 
 /// Whether the entries are those of the text, or there is no answer and the text says so.
-fn is_answer(alloc: Global, found: &Option<Subst>, text: &str) -> Result<bool, AllocError> {
+pub(crate) fn is_answer(
+    alloc: Global,
+    found: &Option<Subst>,
+    text: &str,
+) -> Result<bool, AllocError> {
     let Some(subst) = found else {
         return Ok(text == "none");
     };

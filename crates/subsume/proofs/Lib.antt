@@ -1,0 +1,6 @@
+mod Matching
+mod Places
+mod Parts
+mod Sums
+mod Covered
+mod Entries

@@ -1,0 +1,3 @@
+pub mod Subsuming
+pub mod Placing
+pub mod Candidates

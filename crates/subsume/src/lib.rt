@@ -1,0 +1,12 @@
+//! Subsumption: a substitution that maps the atoms of one clause to different atoms of another.
+//!
+//! `specs/Subsuming.antt` says what is answered.
+#![tactic(auto)]
+
+mod atoms;
+mod candidates;
+mod counting;
+mod placing;
+mod subsuming;
+
+pub use subsuming::subsumes;
