@@ -7,11 +7,9 @@ mod gathering;
 mod laws;
 mod scope;
 mod scoping;
+mod stop;
 mod variables;
 mod walk;
 
 pub use clause::clause_at;
-pub use gathering::{Stop, add_literal};
 pub use laws::{clauses_are_counted, clauses_stand};
-pub use scope::{Block, atom_instance, term_of};
-pub use variables::{add_term_variables, add_variables};
