@@ -12,10 +12,11 @@ stands Axiom = true
 stands Conjecture = false
 stands Clause = true
 
-abbrev counted : Bool → Tree → Tree
-counted true f = f
-counted false f = tree.Not f
+-- the formula, or its negation
+abbrev pub with_sign : Bool → Tree → Tree
+with_sign true f = f
+with_sign false f = tree.Not f
 
 -- the formula that an entry adds: a conjecture's counts negated
 abbrev pub entry_formula : Entry → Tree
-entry_formula e = counted (stands e.role) e.formula
+entry_formula e = with_sign (stands e.role) e.formula

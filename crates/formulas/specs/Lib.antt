@@ -6,3 +6,4 @@ pub mod Negations
 pub mod FormLaws
 pub mod Counts
 pub mod Entries
+pub mod AtomTests

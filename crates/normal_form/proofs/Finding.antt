@@ -1,7 +1,6 @@
 -- What the search for a part among several asks for.
-use Rattle.std.specs.Prelude.{◌≡◌, ℕ, ◌+◌, ◌<◌, ◌≤◌, Bool, List, map}
-use Rattle.formulas.specs.declared.tree.Tree.{Tree}
-use Rattle.formulas.specs.Negations.{Form, signed_form}
+use Rattle.std.specs.Prelude.{◌≡◌, ℕ, ◌+◌, ◌<◌, ◌≤◌, List}
+use Rattle.formulas.specs.Negations.{Form}
 use Rattle.normal_form.specs.Choices.{product_count}
 use Rattle.normal_form.specs.Walking.{sum_count, skolem_count}
 

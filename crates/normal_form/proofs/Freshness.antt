@@ -1,11 +1,10 @@
 -- Bindings that no block has yet: what holds of them at the parts of a formula, and behind a quantifier.
-use Rattle.std.proofs.Common.{◌≡◌, inl, inr, ℕ, zero, suc, ◌+◌, ◌-◌, ◌<◌, ◌≤◌, Bool, true, false, ◌&&◌, ◌||◌, ◌==◌, nat_le, nat_lt, if◌then◌else◌, List, [], ◌∷◌, ◌++◌, map, fold, get_or, length, slice_get, unwrap_or, arith, refl, sym, subst, ap, ◌∙◌, append_assoc}
+use Rattle.std.proofs.Common.{◌≡◌, inl, inr, ℕ, zero, suc, ◌+◌, ◌-◌, ◌<◌, ◌≤◌, Bool, true, false, ◌&&◌, ◌||◌, ◌==◌, nat_le, nat_lt, if◌then◌else◌, List, [], ◌∷◌, ◌++◌, map, fold, get_or, length, arith, refl, sym, subst, ap, ◌∙◌, append_assoc}
 use Rattle.std.specs.List.{list_any, concat, filter, flat_map}
 use Rattle.std.proofs.lemmas.Bool.{eqb-true, eq-eqb, or_cases, or_left, or_right, or_from, or_parts, cases_lt, and_parts, and_from, leb-true, ltb-true, le-leb, lt-ltb, cases_eq, false≢true, false_from_ne_true}
 use Rattle.std.proofs.lemmas.List.Folds.{list_any-append}
 use Rattle.std.proofs.lemmas.List.Elements.{filter-append}
-use Rattle.spl_terms.specs.declared.term.Term.{Term, Var, App}
-use Rattle.spl_terms.specs.declared.term.Kind.TheVariants.{Function}
+use Rattle.spl_terms.specs.declared.term.Term.{Term, Var}
 use Rattle.spl_terms.specs.Terms.{term_variables}
 use Rattle.formulas.specs.declared.tree.Tree as tree
 use Rattle.formulas.specs.declared.tree.Tree.{Tree, Tree-F}

@@ -1,12 +1,10 @@
 -- Literals that come one by one make the clause of their list, and it never shrinks.
-use Rattle.std.proofs.Common.{◌≡◌, inl, inr, ◌≤◌, Bool, true, false, not, ◌&&◌, if◌then◌else◌, List, [], ◌∷◌, map, fold, arith, refl, sym, ap, ◌∙◌}
-use Rattle.std.specs.List.{filter, list_any}
-use Rattle.std.proofs.lemmas.Bool.{cases_Bool}
+use Rattle.std.proofs.Common.{◌≡◌, ◌≤◌, Bool, true, false, not, ◌&&◌, if◌then◌else◌, List, [], ◌∷◌, map, fold, arith, refl, sym, ap, ◌∙◌}
+use Rattle.std.specs.List.{filter}
 use Rattle.spl_terms.specs.declared.atom.Atom.{Atom}
-use Rattle.spl_terms.specs.declared.clause.Part.{Part}
 use Rattle.spl_terms.specs.declared.clause.Part.TheVariants.{Constraint, Antecedent, Succedent}
 use Rattle.spl_terms.specs.declared.clause.Clause.{Clause}
-use Rattle.spl_terms.specs.Clauses.{is_of_sort, is_same, added, part_of, with_atom, clause_symbols, distinct, at_lists, renumbered, in_order}
+use Rattle.spl_terms.specs.Clauses.{is_of_sort, added, with_atom, clause_symbols, distinct, at_lists, renumbered, in_order}
 use Rattle.spl_terms.specs.InOrderLaws.{distinct-different, different-distinct}
 use Rattle.spl_terms.specs.SizeLaws.{with_atom-grows, symbols-renumbered}
 use Rattle.normal_form.specs.Clausal.{Literal, stands_right, stands_left, stands_in_constraint, atoms_where, clause_from}

@@ -25,11 +25,11 @@ pub record IsFirstNew (symbols : List Declared) (arity from k : ℕ) : Type 0 wh
   pub new : found (skolem_name arity k) symbols ≡ None
   pub passed : (j : ℕ) → from ≤ j → j < k → is_some (found (skolem_name arity j) symbols) ≡ true
 
--- new is old with Skolem symbols of these numbers of arguments at its end; a number whose name is declared is passed over, and
--- each next one is looked for behind the one before
-abbrev pub HasSkolems : List Declared → ℕ → List ℕ → List Declared → Type 0
-HasSkolems old from [] new = new ≡ old
-HasSkolems old from (arity ∷ arities) new = (k : ℕ) × IsFirstNew old arity from k × HasSkolems (old ++ skolem_symbol arity k ∷ []) (k + 1) arities new
+-- new is old with Skolem symbols of these numbers of arguments at its end; a number whose name is declared is passed over, each
+-- next one is looked for behind the one before, the first one from `from` on, and `next` is the number behind the last
+abbrev pub HasSkolems : List Declared → ℕ → List ℕ → List Declared → ℕ → Type 0
+HasSkolems old from [] new next = (new ≡ old) × (next ≡ from)
+HasSkolems old from (arity ∷ arities) new next = (k : ℕ) × IsFirstNew old arity from k × HasSkolems (old ++ skolem_symbol arity k ∷ []) (k + 1) arities new next
 
 -- old and new are the signature before and after, from and next the numbers from which names are looked for; want of memory is
 -- free

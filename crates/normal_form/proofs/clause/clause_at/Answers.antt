@@ -1,14 +1,12 @@
 use Rattle.std.proofs.Common.{◌≡◌, ◌<◌, Some, Err, sym, subst, ap, ◌∙◌, arith}
 use Rattle.std.proofs.lemmas.Option.{same_Some}
 use Rattle.std.proofs.lemmas.Result.{IfOk-weaker}
-use Rattle.spl_terms.specs.declared.clause.Clause.{Clause}
 use Rattle.spl_terms.specs.Clauses.{clause_symbols, in_order, FitsOrBig}
 use Rattle.formulas.specs.Negations.{Form, signed_form}
 use Rattle.normal_form.specs.Law.{bindings}
 use Rattle.normal_form.specs.Skolem.{start}
 use Rattle.normal_form.specs.Choices.{literals_chosen}
 use Rattle.normal_form.specs.Clausal.{clause_from}
-use Rattle.normal_form.specs.NormalForm.{clauses_of_form}
 use Rattle.normal_form.specs.Blocks.{place_below}
 use Rattle.normal_form.specs.Gathering.{gathered, nothing_gathered, IsGathered}
 use Rattle.normal_form.specs.Walking.{AreFresh}

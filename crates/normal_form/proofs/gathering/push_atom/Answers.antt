@@ -1,4 +1,4 @@
-use Rattle.std.proofs.Common.{◌≡◌, false, OnOk, sym, ap, ◌∙◌}
+use Rattle.std.proofs.Common.{◌≡◌, false, sym, ap, ◌∙◌}
 use Rattle.std.specs.List.{list_any}
 use Rattle.std.proofs.lemmas.Result.{on_ok_weaker}
 use Rattle.spl_terms.specs.Clauses.{is_same, part_of, with_atom}

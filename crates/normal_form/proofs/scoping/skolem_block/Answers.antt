@@ -1,4 +1,4 @@
-use Rattle.std.proofs.Common.{◌≡◌, Some, ap, ◌∙◌}
+use Rattle.std.proofs.Common.{Some, ◌∙◌}
 use Rattle.normal_form.proofs.Freshness.{block_arguments}
 use Rattle.normal_form.proofs.scoping.skolem_block.Goals as goal
 
