@@ -5,3 +5,5 @@ pub mod Cases
 pub mod Negations
 pub mod FormLaws
 pub mod Counts
+pub mod Entries
+pub mod AtomTests

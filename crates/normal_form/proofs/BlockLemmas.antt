@@ -1,5 +1,5 @@
 -- Blocks of quantified variables.
-use Rattle.std.proofs.Common.{◌≡◌, ◌⊎◌, inl, inr, ℕ, zero, suc, ◌+◌, ◌-◌, ◌<◌, ◌≤◌, Bool, true, false, ◌&&◌, ◌==◌, nat_le, nat_lt, if◌then◌else◌, List, [], ◌∷◌, ◌++◌, map, slice_get, unwrap_or, Some, arith, refl, sym, ap, ◌∙◌, append_assoc, append-nil}
+use Rattle.std.proofs.Common.{◌≡◌, ◌⊎◌, inl, inr, ℕ, zero, suc, ◌+◌, ◌-◌, ◌<◌, ◌≤◌, Bool, true, false, ◌&&◌, ◌==◌, nat_le, nat_lt, if◌then◌else◌, List, [], ◌∷◌, ◌++◌, map, arith, refl, sym, ap, ◌∙◌, append_assoc, append-nil}
 use Rattle.std.proofs.lemmas.Grind.{fold-append}
 use Rattle.std.proofs.lemmas.List.Concat.{flat_map-append}
 use Rattle.std.proofs.lemmas.Bool.{cases_lt, cases_eq, lt-ltb, le-ltb, le-leb, lt-leb, eq-eqb, ne_eqb, eqb-true, and_parts, leb-true, ltb-true}
@@ -12,7 +12,7 @@ use Rattle.formulas.specs.FormLaws.{form-Forall, form-Exists}
 use Rattle.normal_form.specs.declared.scope.Block.{Block}
 use Rattle.normal_form.specs.Skolem.{Place, with_variable, with_skolem, skolem_arguments}
 use Rattle.normal_form.specs.Choices.{literals_chosen}
-use Rattle.normal_form.specs.Blocks.{with_block, term_in, is_universal, numbers_from, scope_in, place_below, for_each, for_any, with_variables, with_skolems, universal_block, skolem_terms, existential_block}
+use Rattle.normal_form.specs.Blocks.{with_block, term_in, is_universal, numbers_from, scope_in, place_below, for_each, for_any, with_variables, with_skolems, universal_block, existential_block}
 use Rattle.normal_form.proofs.Blocks.{same_arguments}
 
 pub last_block : (outer : List Block) (b : Block) (v : ℕ) → term_in (outer ++ b ∷ []) v ≡ with_block (term_in outer) b v
@@ -114,11 +114,6 @@ place-universal blocks first count next =
 abbrev skolem : ℕ → List ℕ → Term
 skolem number args = App (record { number = number; kind = Function }) (map Var args)
 
-skolem_at : (next : ℕ) (args : List ℕ) (count k : ℕ) → k < count → slice_get (skolem_terms next args count) k ≡ Some (skolem (next + k) args)
-skolem_at next args zero k h = absurd (omega arith)
-skolem_at next args (suc count) zero h = ap (λ (n : ℕ). Some (skolem n args)) (let e : next ≡ next + 0 = omega arith in e)
-skolem_at next args (suc count) (suc k) h = skolem_at (next + 1) args count k (omega arith) ∙ ap (λ (n : ℕ). Some (skolem n args)) (let e : next + 1 + k ≡ next + suc k = omega arith in e)
-
 when_true : (b : Bool) (s t u : Term) → (b ≡ true → s ≡ t) → (if b then s else u) ≡ (if b then t else u)
 when_true true s t u h = h refl
 when_true false s t u h = refl
@@ -150,24 +145,13 @@ skolems_symbols : (first count : ℕ) (f : Form) (p : Place) → (with_skolems f
 skolems_symbols first zero f p = let e : p.symbols ≡ p.symbols + 0 = omega arith in e
 skolems_symbols first (suc count) f p = skolems_symbols (suc first) count f (with_skolem first (for_any first (suc count) f) p) ∙ (let e : p.symbols + 1 + count ≡ p.symbols + suc count = omega arith in e)
 
-block_term : (first count next : ℕ) (args : List ℕ) (v : ℕ) (t : Term) → with_block (λ w. t) (record { first = first; count = count; terms = skolem_terms next args count }) v ≡ (if in_block first count v then skolem (next + (v - first)) args else t)
-block_term first count next args v t =
-    when_true (in_block first count v) (unwrap_or (slice_get (skolem_terms next args count) (v - first)) (Var v)) (skolem (next + (v - first)) args) t
-    (λ h. ap (λ o. unwrap_or o (Var v)) (skolem_at next args count (v - first) (in_parts first count v h).1))
-
 -- the place behind an existential quantifier is that of the blocks with its block, and with its symbols
 pub place-existential : (blocks : List Block) (first count next : ℕ) (f : Form) → place_below (blocks ++ existential_block first count f (place_below blocks next) ∷ []) (next + count) ≡ with_skolems first count f (place_below blocks next)
-place-existential blocks first zero next f =
-    let b : Block = existential_block first 0 f (place_below blocks next) in
-    same_place (place_below (blocks ++ b ∷ []) (next + 0)) (place_below blocks next)
-    (λ v. last_block blocks b v ∙ ap (λ t. if t then unwrap_or (slice_get b.terms (v - first)) (Var v) else term_in blocks v) (in_nothing first v))
-    (flat_map-append (λ c. if is_universal c then numbers_from c.first c.count else []) blocks (b ∷ []) ∙ append-nil (scope_in blocks))
-    (let e : next + 0 ≡ next = omega arith in e)
-place-existential blocks first (suc count) next f =
+place-existential blocks first count next f =
     let p : Place = place_below blocks next in
-    let b : Block = existential_block first (suc count) f p in
-    let args : List ℕ = skolem_arguments (for_any first (suc count) f) p in
-    same_place (place_below (blocks ++ b ∷ []) (next + suc count)) (with_skolems first (suc count) f p)
-    (λ v. last_block blocks b v ∙ block_term first (suc count) next args v (term_in blocks v) ∙ sym (skolems_term first (suc count) f p args refl v))
-    (flat_map-append (λ c. if is_universal c then numbers_from c.first c.count else []) blocks (b ∷ []) ∙ append-nil (scope_in blocks) ∙ sym (skolems_scope first (suc count) f p))
-    (sym (skolems_symbols first (suc count) f p))
+    let b : Block = existential_block first count f p in
+    let args : List ℕ = skolem_arguments (for_any first count f) p in
+    same_place (place_below (blocks ++ b ∷ []) (next + count)) (with_skolems first count f p)
+    (λ v. last_block blocks b v ∙ sym (skolems_term first count f p args refl v))
+    (flat_map-append (λ c. if is_universal c then numbers_from c.first c.count else []) blocks (b ∷ []) ∙ append-nil (scope_in blocks) ∙ sym (skolems_scope first count f p))
+    (sym (skolems_symbols first count f p))

@@ -1,5 +1,5 @@
 -- The existential variables of one quantifier: all their Skolem terms have the same arguments.
-use Rattle.std.proofs.Common.{◌≡◌, inl, inr, ℕ, Bool, true, false, not, ◌&&◌, ◌==◌, if◌then◌else◌, List, [], ◌∷◌, ◌++◌, map, refl, sym, ap, ◌∙◌}
+use Rattle.std.proofs.Common.{◌≡◌, inl, inr, ℕ, ◌+◌, Bool, true, false, not, ◌&&◌, ◌==◌, if◌then◌else◌, List, [], ◌∷◌, ◌++◌, map, refl, sym, ap, ◌∙◌}
 use Rattle.std.specs.List.{filter, flat_map}
 use Rattle.std.proofs.lemmas.Bool.{eqb-true, eq-eqb, or_cases, or_left, or_right, and_parts, not-true, cases_Bool, false≢true}
 use Rattle.std.proofs.lemmas.List.Folds.{list_any-append}
@@ -8,6 +8,9 @@ use Rattle.spl_terms.specs.Terms.{term_variables}
 use Rattle.spl_terms.specs.TermLaws.{term_variables-App, term_variables-Var}
 use Rattle.formulas.specs.Negations.{Form, for_some}
 use Rattle.normal_form.specs.Skolem.{is_member, all_but, free_variables, Place, skolem_arguments, skolem_symbol, skolem_term, with_skolem}
+use Rattle.spl_terms.specs.declared.term.Kind.TheVariants.{Function}
+use Rattle.normal_form.specs.declared.scope.SkolemTerms.{SkolemTerms}
+use Rattle.normal_form.specs.Blocks.{skolem_at}
 use Rattle.normal_form.proofs.Members.{member_without, member_flat_map}
 
 -- a member of several lists is one of some list
@@ -40,9 +43,12 @@ same_answers true b f g = sym (f refl)
 same_answers false true f g = g refl
 same_answers false false f g = refl
 
-flat_variables : (vs : List ℕ) → flat_map term_variables (map Var vs) ≡ vs
+pub flat_variables : (vs : List ℕ) → flat_map term_variables (map Var vs) ≡ vs
 flat_variables [] = refl
 flat_variables (v ∷ vs) = (let h = term_variables-Var v in let k = flat_variables vs in λ i. h i ++ k i)
+
+pub skolem_variables : (terms : SkolemTerms) (place : ℕ) → term_variables (skolem_at terms place) ≡ terms.args
+skolem_variables terms place = term_variables-App (record { number = terms.next + place; kind = Function }) (map Var terms.args) ∙ flat_variables terms.args
 
 -- one variable of the block, before the quantifier of the next one
 module _ (x : ℕ) (inner : Form) (p : Place) where

@@ -1,12 +1,8 @@
 -- What the search for a part among several asks for.
-use Rattle.std.specs.Prelude.{◌≡◌, ℕ, ◌+◌, ◌<◌, ◌≤◌, Bool, List, map}
-use Rattle.formulas.specs.declared.tree.Tree.{Tree}
-use Rattle.formulas.specs.Negations.{Form, signed_form}
+use Rattle.std.specs.Prelude.{◌≡◌, ℕ, ◌+◌, ◌<◌, ◌≤◌, List}
+use Rattle.formulas.specs.Negations.{Form}
 use Rattle.normal_form.specs.Choices.{product_count}
 use Rattle.normal_form.specs.Walking.{sum_count, skolem_count}
-
-abbrev pub forms_of : Bool → List Tree → List Form
-forms_of sign ts = map (λ f. f sign) (map signed_form ts)
 
 -- the place is within the lists of the parts that are left, and their counts are exact
 pub record CanFind (fs : List Form) (next place : ℕ) : Type 0 where

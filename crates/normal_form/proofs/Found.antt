@@ -1,5 +1,5 @@
 -- The search for the part that has the list at a place.
-use Rattle.std.proofs.Common.{◌≡◌, ℕ, zero, suc, ◌+◌, ◌-◌, ◌*◌, ◌/◌, ◌%◌, ◌<◌, ◌≤◌, Bool, true, false, ◌++◌, subst, if◌then◌else◌, List, [], ◌∷◌, fold, drop, get_or, length, arith, refl, sym, ap, ◌∙◌, Option, Some, None, MatchOption}
+use Rattle.std.proofs.Common.{◌≡◌, ℕ, zero, suc, ◌+◌, ◌-◌, ◌*◌, ◌/◌, ◌%◌, ◌<◌, ◌≤◌, Bool, true, false, ◌++◌, subst, if◌then◌else◌, List, [], ◌∷◌, fold, drop, get_or, length, arith, refl, sym, ap, ◌∙◌, Option, Some, None, MatchOption, Err}
 use Rattle.std.proofs.lemmas.Bool.{lt-ltb}
 use Rattle.std.proofs.lemmas.Grind.{fold-append}
 use Rattle.std.proofs.lemmas.List.{same_from_push}
@@ -8,7 +8,11 @@ use Rattle.normal_form.specs.declared.scope.Block.{Block}
 use Rattle.spl_terms.specs.declared.clause.Clause.{Clause}
 use Rattle.formulas.specs.Trees.{tree_size}
 use Rattle.normal_form.specs.Clausal.{Literal}
-use Rattle.normal_form.specs.Gathering.{gathered, with_signed_atom}
+use Rattle.normal_form.specs.Gathering.{gathered, with_signed_atom, IsGathered}
+use Rattle.normal_form.specs.declared.stop.Stop.{Stop}
+use Rattle.normal_form.specs.declared.stop.Stop.TheVariants.{Huge, Memory}
+use Rattle.normal_form.proofs.Gathered.{gathered_grows}
+use Rattle.spl_terms.specs.Clauses.{clause_symbols}
 use Rattle.formulas.specs.declared.tree.Tree.{Tree}
 use Rattle.std.proofs.Math.Nat.{mul-zero, mul_comm, mod-lt, div-lt_iff_lt-mul}
 use Rattle.std.proofs.lemmas.Nat.{mul-le, div-mul-add}
@@ -19,7 +23,8 @@ use Rattle.normal_form.specs.Choices.{literals_chosen, chosen_in_one, chosen_in_
 use Rattle.normal_form.specs.Walking.{CanAdd}
 use Rattle.normal_form.proofs.Walks.{count_all, skolems_all, skolems_some}
 use Rattle.normal_form.proofs.Several.{count_either}
-use Rattle.normal_form.proofs.Finding.{CanFind, CanTake, forms_of}
+use Rattle.normal_form.proofs.Finding.{CanFind, CanTake}
+use Rattle.normal_form.specs.Listing.{forms_of}
 
 pub can_find : (fs : List Form) (next place : ℕ) → CanAdd (fold both (constant true) fs) next place → CanFind fs next place
 can_find fs next place can =
@@ -74,7 +79,7 @@ taken f fs next place rest c =
     }
 
 -- the parts that are left, the next one first
-left_parts : (sign : Bool) (ts : List Tree) (i : ℕ) (t : Tree) → i < length ts → t ≡ get_or ts i t → forms_of sign (drop i ts) ≡ signed_form t sign ∷ forms_of sign (drop (i + 1) ts)
+pub left_parts : (sign : Bool) (ts : List Tree) (i : ℕ) (t : Tree) → i < length ts → t ≡ get_or ts i t → forms_of sign (drop i ts) ≡ signed_form t sign ∷ forms_of sign (drop (i + 1) ts)
 left_parts sign ts i t h e = by_suc ts i h e ∙ ap (λ (j : ℕ). signed_form t sign ∷ forms_of sign (drop j ts)) (let f : suc i ≡ i + 1 = omega arith in f)
   where
     by_suc : (us : List Tree) (j : ℕ) → j < length us → t ≡ get_or us j t → forms_of sign (drop j us) ≡ signed_form t sign ∷ forms_of sign (drop (suc j) us)
@@ -114,6 +119,11 @@ drop_past (t ∷ ts) (suc i) h = drop_past ts i (omega arith)
 
 pub gathered_two : (c : Clause) (xs ys : List Literal) → gathered c (xs ++ ys) ≡ gathered (gathered c xs) ys
 gathered_two c xs ys = fold-append with_signed_atom c xs ys
+
+-- where some literals are too many, so they are with more
+pub stopped : (c : Clause) (xs ys : List Literal) (m n : Clause) (s : Stop) → IsGathered {T = Unit {0}} (gathered c xs) m (Err s) → IsGathered {T = Unit {0}} (gathered c (xs ++ ys)) n (Err s)
+stopped c xs ys m n Huge h = omega (arith, h, gathered_grows (gathered c xs) ys, ap clause_symbols (gathered_two c xs ys))
+stopped c xs ys m n Memory h = tt
 
 -- ---- leaving a quantifier's scope
 

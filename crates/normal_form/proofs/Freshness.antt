@@ -1,11 +1,10 @@
 -- Bindings that no block has yet: what holds of them at the parts of a formula, and behind a quantifier.
-use Rattle.std.proofs.Common.{◌≡◌, inl, inr, ℕ, zero, suc, ◌+◌, ◌-◌, ◌<◌, ◌≤◌, Bool, true, false, ◌&&◌, ◌||◌, ◌==◌, nat_le, nat_lt, if◌then◌else◌, List, [], ◌∷◌, ◌++◌, map, fold, get_or, length, slice_get, unwrap_or, arith, refl, sym, subst, ap, ◌∙◌, append_assoc}
+use Rattle.std.proofs.Common.{◌≡◌, inl, inr, ℕ, zero, suc, ◌+◌, ◌-◌, ◌<◌, ◌≤◌, Bool, true, false, ◌&&◌, ◌||◌, ◌==◌, nat_le, nat_lt, if◌then◌else◌, List, [], ◌∷◌, ◌++◌, map, fold, get_or, length, arith, refl, sym, subst, ap, ◌∙◌, append_assoc}
 use Rattle.std.specs.List.{list_any, concat, filter, flat_map}
 use Rattle.std.proofs.lemmas.Bool.{eqb-true, eq-eqb, or_cases, or_left, or_right, or_from, or_parts, cases_lt, and_parts, and_from, leb-true, ltb-true, le-leb, lt-ltb, cases_eq, false≢true, false_from_ne_true}
 use Rattle.std.proofs.lemmas.List.Folds.{list_any-append}
 use Rattle.std.proofs.lemmas.List.Elements.{filter-append}
-use Rattle.spl_terms.specs.declared.term.Term.{Term, Var, App}
-use Rattle.spl_terms.specs.declared.term.Kind.TheVariants.{Function}
+use Rattle.spl_terms.specs.declared.term.Term.{Term, Var}
 use Rattle.spl_terms.specs.Terms.{term_variables}
 use Rattle.formulas.specs.declared.tree.Tree as tree
 use Rattle.formulas.specs.declared.tree.Tree.{Tree, Tree-F}
@@ -18,7 +17,7 @@ use Rattle.normal_form.specs.declared.scope.Block.{Block}
 use Rattle.normal_form.specs.Skolem.{is_member, skolem_arguments}
 use Rattle.normal_form.specs.Law.{bindings_step, bindings, all_distinct}
 use Rattle.normal_form.specs.Occurring.{occurring}
-use Rattle.normal_form.specs.Blocks.{has_variable, with_block, term_in, is_universal, numbers_from, scope_in, place_below, for_any, skolem_terms}
+use Rattle.normal_form.specs.Blocks.{has_variable, with_block, term_in, is_universal, numbers_from, scope_in, place_below, for_any, own_term}
 use Rattle.normal_form.specs.Walking.{AreFresh, arguments_in}
 use Rattle.normal_form.proofs.Members.{member_left, member_right}
 use Rattle.normal_form.proofs.Separate.{Disjoint, parted, member_cases}
@@ -133,7 +132,7 @@ outside_itself : (v : ℕ) (blocks : List Block) (terms : ℕ → Term) → term
 outside_itself v [] terms here out = here
 outside_itself v (b ∷ blocks) terms here out =
     let p = or_parts (has_variable b v) (list_any (λ c. has_variable c v) blocks) out in
-    outside_itself v blocks (with_block terms b) (ap (λ t. if t then unwrap_or (slice_get b.terms (v - b.first)) (Var v) else terms v) p.0 ∙ here) p.1
+    outside_itself v blocks (with_block terms b) (ap (λ t. if t then own_term b.skolems (v - b.first) v else terms v) p.0 ∙ here) p.1
 
 scope_has : (v : ℕ) (blocks : List Block) → is_member v (scope_in blocks) ≡ true → list_any (λ b. has_variable b v) blocks ≡ true
 scope_has v [] h = absurd (false≢true h)
@@ -176,11 +175,3 @@ pub filter_more : (test : ℕ → Bool) (before : List ℕ) (first k : ℕ) → 
 filter_more test before first k =
     append_assoc before (filter test (numbers_from first k)) (filter test ((first + k) ∷ []))
     ∙ ap (λ l. before ++ l) (sym (filter-append test (numbers_from first k) ((first + k) ∷ [])) ∙ ap (filter test) (sym (numbers_more first k) ∙ ap (numbers_from first) (let e : suc k ≡ k + 1 = omega arith in e)))
-
--- one more Skolem term
-skolems_more : (next : ℕ) (args : List ℕ) (k : ℕ) → skolem_terms next args k ++ App (record { number = next + k; kind = Function }) (map Var args) ∷ [] ≡ skolem_terms next args (suc k)
-skolems_more next args zero = ap (λ (n : ℕ). App (record { number = n; kind = Function }) (map Var args) ∷ []) (let e : next + 0 ≡ next = omega arith in e)
-skolems_more next args (suc k) = ap (λ l. App (record { number = next; kind = Function }) (map Var args) ∷ l) (ap (λ (n : ℕ). skolem_terms (next + 1) args k ++ App (record { number = n; kind = Function }) (map Var args) ∷ []) (let e : next + suc k ≡ next + 1 + k = omega arith in e) ∙ skolems_more (next + 1) args k)
-
-pub terms_more : (next : ℕ) (args : List ℕ) (k : ℕ) → skolem_terms next args k ++ App (record { number = next + k; kind = Function }) (map Var args) ∷ [] ≡ skolem_terms next args (k + 1)
-terms_more next args k = skolems_more next args k ∙ ap (skolem_terms next args) (let e : suc k ≡ k + 1 = omega arith in e)

@@ -1,14 +1,12 @@
 -- Literals that come one by one make the clause of their list, and it never shrinks.
-use Rattle.std.proofs.Common.{◌≡◌, inl, inr, ◌≤◌, Bool, true, false, not, ◌&&◌, if◌then◌else◌, List, [], ◌∷◌, map, fold, arith, refl, sym, ap, ◌∙◌}
-use Rattle.std.specs.List.{filter, list_any}
-use Rattle.std.proofs.lemmas.Bool.{cases_Bool}
+use Rattle.std.proofs.Common.{◌≡◌, ◌≤◌, Bool, true, false, not, ◌&&◌, if◌then◌else◌, List, [], ◌∷◌, map, fold, arith, refl, sym, ap, ◌∙◌}
+use Rattle.std.specs.List.{filter}
 use Rattle.spl_terms.specs.declared.atom.Atom.{Atom}
-use Rattle.spl_terms.specs.declared.clause.Part.{Part}
 use Rattle.spl_terms.specs.declared.clause.Part.TheVariants.{Constraint, Antecedent, Succedent}
 use Rattle.spl_terms.specs.declared.clause.Clause.{Clause}
-use Rattle.spl_terms.specs.Clauses.{is_of_sort, is_same, added, part_of, with_atom, clause_symbols, distinct, at_lists, renumbered, in_order}
+use Rattle.spl_terms.specs.Clauses.{is_of_sort, added, with_atom, clause_symbols, distinct, at_lists, renumbered, in_order}
 use Rattle.spl_terms.specs.InOrderLaws.{distinct-different, different-distinct}
-use Rattle.spl_terms.specs.SizeLaws.{with_atom-grows}
+use Rattle.spl_terms.specs.SizeLaws.{with_atom-grows, symbols-renumbered}
 use Rattle.normal_form.specs.Clausal.{Literal, stands_right, stands_left, stands_in_constraint, atoms_where, clause_from}
 use Rattle.normal_form.specs.Gathering.{part_for, with_signed_atom, nothing_gathered, gathered}
 
@@ -55,3 +53,7 @@ in_order-gathered ls = ap in_order (gathered_parts nothing_gathered ls) ∙ ap r
 pub gathered_grows : (c : Clause) (ls : List Literal) → clause_symbols c ≤ clause_symbols (gathered c ls)
 gathered_grows c [] = omega arith
 gathered_grows c (l ∷ ls) = let h = gathered_grows (with_signed_atom c l) ls in let k = with_atom-grows c (part_for l.sign l.atom) l.atom in omega arith
+
+-- the clause of a list has as many symbols as what was gathered
+pub symbols-gathered : (ls : List Literal) → clause_symbols (clause_from ls) ≡ clause_symbols (gathered nothing_gathered ls)
+symbols-gathered ls = ap clause_symbols (clause-gathered ls) ∙ symbols-renumbered (gathered nothing_gathered ls)

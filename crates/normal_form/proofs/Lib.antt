@@ -23,3 +23,6 @@ pub mod Walks
 pub mod Freshness
 pub mod Finding
 pub mod Found
+pub mod Listed
+pub mod Formed
+pub mod OfSymbols

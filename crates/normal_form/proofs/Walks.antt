@@ -68,7 +68,7 @@ clauses-for_each : (first count : ℕ) (f : Form) → clause_count (for_each fir
 clauses-for_each first zero f = refl
 clauses-for_each first (suc count) f = clauses-for_each (suc first) count f
 
-skolems-for_each : (first count : ℕ) (f : Form) → existentials (for_each first count f) ≡ existentials f
+pub skolems-for_each : (first count : ℕ) (f : Form) → existentials (for_each first count f) ≡ existentials f
 skolems-for_each first zero f = refl
 skolems-for_each first (suc count) f = skolems-for_each (suc first) count f
 
@@ -76,7 +76,7 @@ clauses-for_any : (first count : ℕ) (f : Form) → clause_count (for_any first
 clauses-for_any first zero f = refl
 clauses-for_any first (suc count) f = clauses-for_any (suc first) count f
 
-skolems-for_any : (first count : ℕ) (f : Form) → existentials (for_any first count f) ≡ existentials f + count
+pub skolems-for_any : (first count : ℕ) (f : Form) → existentials (for_any first count f) ≡ existentials f + count
 skolems-for_any first zero f = omega arith
 skolems-for_any first (suc count) f = let h = skolems-for_any (suc first) count f in omega arith
 

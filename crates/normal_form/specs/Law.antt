@@ -8,6 +8,7 @@ use Rattle.spl_terms.specs.Clauses.{atom_terms, atom_variables}
 use Rattle.formulas.specs.declared.tree.Tree.{Tree, Tree-F, fold-Tree}
 use Rattle.formulas.specs.declared.tree.Tree.TheOpen as layer
 use Rattle.normal_form.specs.Skolem.{is_member}
+use Rattle.formulas.specs.AtomTests.{all_atoms}
 use Rattle.formulas.specs.Negations.{Form}
 use Rattle.formulas.specs.Counts.{clause_count}
 use Rattle.normal_form.specs.NormalForm.{clauses_of_form, normal_form}
@@ -40,21 +41,9 @@ is_old_term next = fold-Term Bool (old_term_step next)
 abbrev pub is_old_atom : ℕ → Atom → Bool
 is_old_atom next a = list_all (is_old_term next) (atom_terms a)
 
-abbrev pub old_step : ℕ → Tree-F Bool → Bool
-old_step next layer.True = true
-old_step next layer.False = true
-old_step next (layer.Atom a) = is_old_atom next a
-old_step next (layer.Not b) = b
-old_step next (layer.And bs) = list_all (λ b. b) bs
-old_step next (layer.Or bs) = list_all (λ b. b) bs
-old_step next (layer.Implies b c) = b && c
-old_step next (layer.Equiv b c) = b && c
-old_step next (layer.Forall x b) = b
-old_step next (layer.Exists x b) = b
-
 -- whether each function of the formula has a smaller number
 abbrev pub is_old : ℕ → Tree → Bool
-is_old next = fold-Tree Bool (old_step next)
+is_old next = all_atoms (is_old_atom next)
 
 abbrev pub bindings_step : Tree-F (List ℕ) → List ℕ
 bindings_step layer.True = []

@@ -1,17 +1,22 @@
-//! Clause normal form: what the clauses of a formula are, that they stand for it in every finite structure, and the parts of
-//! the program that makes them.
+//! Clause normal form: what the clauses of formulas are, that they stand for them in every finite structure, and how they are
+//! made.
 #![tactic(auto)]
 
+mod arities;
 mod clause;
+mod error;
+mod forming;
 mod gathering;
 mod laws;
+mod problem;
 mod scope;
 mod scoping;
+mod stop;
 mod variables;
 mod walk;
 
 pub use clause::clause_at;
-pub use gathering::{Stop, add_literal};
+pub use error::FormError;
 pub use laws::{clauses_are_counted, clauses_stand};
-pub use scope::{Block, atom_instance, term_of};
-pub use variables::{add_term_variables, add_variables};
+pub use problem::{ClauseSet, clauses_of};
+pub use variables::add_variables;

@@ -1,23 +1,32 @@
 //! The quantifiers in whose scope a part of a formula stands, and atoms with the Skolem terms in place.
 
-ghost use Rattle.std.specs.Prelude.{◌≡◌, map, IfOk, MatchOption};
+ghost use Rattle.std.specs.Prelude.{◌≡◌, ◌-◌, true, map, IfOk, MatchOption};
 ghost use Rattle.spl_terms.specs.declared.term.Term.{Var};
 ghost use Rattle.spl_terms.specs.Terms.{replace};
 ghost use Rattle.spl_terms.specs.Clauses.{replace_in_atom};
-ghost use Rattle.normal_form.specs.Blocks.{has_variable, term_in};
+ghost use Rattle.normal_form.specs.Blocks.{has_variable, arity_of, skolem_at, own_term, term_in};
 
-use spl_terms::{Atom, Items, Term, at};
+use spl_terms::{Atom, Items, Kind, Symbol, Term};
 use std::alloc::{AllocError, Global};
 
-/// The variables of one quantifier: universal where there are no terms, else each has its Skolem term.
+/// The Skolem terms of a quantifier's variables: a symbol each, and the same arguments.
+#[derive(Debug, Drop)]
+pub struct SkolemTerms {
+    /// The number of the first variable's symbol; the others follow it.
+    pub next: u32,
+    /// The variables that are the arguments, in order.
+    pub args: Items<u32>,
+}
+
+/// The variables of one quantifier.
 #[derive(Debug, Drop)]
 pub struct Block {
     /// The first variable's number; the others follow it.
     pub first: u32,
     /// How many variables there are.
     pub count: u32,
-    /// The Skolem terms, in order; none of a universal quantifier.
-    pub terms: Items<Term>,
+    /// The Skolem terms of an existential quantifier's variables; none of a universal one.
+    pub skolems: Option<SkolemTerms>,
 }
 
 impl Block {
@@ -27,21 +36,72 @@ impl Block {
     {
         variable >= self.first && variable - self.first < self.count
     }
+
+    /// How many arguments the block's Skolem terms have; 0 where it is universal.
+    pub fn arity(&self) -> usize
+        ensures { result ≡ arity_of self.now.skolems }
+    {
+        match &self.skolems {
+            None => 0,
+            Some(terms) => terms.args.len(),
+        }
+    }
 }
 
-/// The Skolem term of a variable, by the innermost block that has it; none where it stands for itself.
+/// The Skolem terms of the block that has a variable, the innermost one, and the variable's place among them; none where it
+/// stands for itself.
 #[tactic(auto, using(crate::proofs::BlockLemmas::last_block))]
-pub fn term_of(blocks: &[Block], variable: u32) -> Option<&Term>
-    ensures { MatchOption result (term_in blocks.now variable ≡ Var variable) (λ t. t.now ≡ term_in blocks.now variable) }
+pub fn term_of(blocks: &[Block], variable: u32) -> Option<(&SkolemTerms, u32)>
+    ensures { MatchOption result (term_in blocks.now variable ≡ Var variable)
+        (λ found. skolem_at found.0.now found.1 ≡ term_in blocks.now variable) }
 {
     match blocks {
         [] => None,
         [outer @ .., block] => {
             if block.has(variable) {
-                at(block.terms.as_slice(), (variable - block.first) as usize)
+                own_terms(block, variable)
             } else {
                 term_of(outer, variable)
             }
+        }
+    }
+}
+
+/// The Skolem terms of a block, and the place among them of one of its variables.
+fn own_terms(block: &Block, variable: u32) -> Option<(&SkolemTerms, u32)>
+    requires { has_variable block.now variable ≡ true }
+    ensures { MatchOption result (own_term block.now.skolems (variable - block.now.first) variable ≡ Var variable)
+        (λ found. skolem_at found.0.now found.1 ≡ own_term block.now.skolems (variable - block.now.first) variable) }
+{
+    match &block.skolems {
+        None => None,
+        Some(terms) => Some((terms, variable - block.first)),
+    }
+}
+
+/// The variables as terms.
+fn variables(alloc: Global, numbers: &[u32]) -> Result<Items<Term>, AllocError>
+    ensures { IfOk result (λ made. made ≡ map Var numbers.now) }
+{
+    let mut made = Items::with_room(alloc, numbers.len())?;
+    for number in numbers {
+        made.push(Term::Var(*number))?;
+    }
+    Ok(made)
+}
+
+/// One of the Skolem terms. Its symbol's number is at most 65,536 here; one that didn't fit would be answered as want of memory.
+fn skolem_term(alloc: Global, terms: &SkolemTerms, place: u32) -> Result<Term, AllocError>
+    ensures { IfOk result (λ t. t ≡ skolem_at terms.now place) }
+{
+    match terms.next.checked_add(place) {
+        None => Err(AllocError),
+        Some(number) => {
+            let symbol = Symbol {
+                number,
+                kind: Kind::Function,
+            };
+            Ok(Term::App(symbol, variables(alloc, terms.args.as_slice())?))
         }
     }
 }
@@ -51,7 +111,7 @@ fn term_or_itself(alloc: Global, blocks: &[Block], variable: u32) -> Result<Term
 {
     match term_of(blocks, variable) {
         None => Ok(Term::Var(variable)),
-        Some(term) => term.copy(alloc),
+        Some((terms, place)) => skolem_term(alloc, terms, place),
     }
 }
 

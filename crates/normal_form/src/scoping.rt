@@ -1,30 +1,39 @@
 //! The Skolem terms of one quantifier, and their arguments.
 
-ghost use Rattle.std.specs.Prelude.{◌≡◌, [], ◌∷◌, ◌++◌, ◌+◌, ◌≤◌, Bool, map, true, false, OnOk, IfOk, MatchOption};
+ghost use Rattle.std.specs.Prelude.{◌≡◌, [], ◌∷◌, ◌++◌, ◌+◌, Bool, true, false, OnOk, IfOk, MatchOption};
 ghost use Rattle.std.specs.List.{filter, flat_map};
-ghost use Rattle.spl_terms.specs.declared.term.Term.{Var};
 ghost use Rattle.spl_terms.specs.Terms.{term_variables};
 ghost use Rattle.formulas.specs.Negations.{signed_form};
 ghost use Rattle.normal_form.specs.Law.{bindings};
 ghost use Rattle.normal_form.specs.Skolem.{is_member};
 ghost use Rattle.normal_form.specs.Occurring.{occurring};
-ghost use Rattle.normal_form.specs.Blocks.{term_in, scope_in, place_below, numbers_from, skolem_terms, existential_block};
+ghost use Rattle.normal_form.specs.Blocks.{term_in, scope_in, place_below, numbers_from, existential_block};
 ghost use Rattle.normal_form.specs.Walking.{AreFresh, standing_in, block_arguments, arguments_in};
 
-use crate::scope::{Block, term_of};
-use crate::variables::{add_term_variables, add_variables};
+use crate::scope::{Block, SkolemTerms, term_of};
+use crate::variables::add_variables;
 use formulas::Formula;
-use spl_terms::{Items, Kind, Symbol, Term};
+use spl_terms::Items;
 use std::alloc::{AllocError, Global};
 
+/// Appends the numbers.
+fn add_numbers(numbers: &[u32], found: &mut Items<u32>) -> Result<(), AllocError>
+    ensures { OnOk result (found.new ≡ found.old ++ numbers.now) }
+{
+    for number in numbers {
+        found.push(*number)?;
+    }
+    Ok(())
+}
+
 /// Appends the variables of the term that stands for a variable.
-#[tactic(auto, using(crate::proofs::Terms::variable_laws))]
+#[tactic(auto, using(crate::proofs::Terms::standing_laws))]
 fn add_standing(blocks: &[Block], variable: u32, found: &mut Items<u32>) -> Result<(), AllocError>
     ensures { OnOk result (found.new ≡ found.old ++ term_variables (term_in blocks.now variable)) }
 {
     match term_of(blocks, variable) {
         None => found.push(variable),
-        Some(term) => add_term_variables(term, found),
+        Some((terms, _)) => add_numbers(terms.args.as_slice(), found),
     }
 }
 
@@ -67,7 +76,7 @@ fn add_listed(numbers: &[u32], number: u64, found: &mut Items<u32>) -> Result<()
 fn add_arguments(block: &Block, standing: &[u32], found: &mut Items<u32>) -> Result<(), AllocError>
     ensures { OnOk result (found.new ≡ found.old ++ block_arguments block.now standing.now) }
 {
-    if !block.terms.is_empty() {
+    if block.skolems.is_some() {
         return Ok(());
     }
     for place in 0..block.count {
@@ -103,39 +112,6 @@ fn skolem_arguments(
     arguments_among(alloc, blocks, standing.as_slice())
 }
 
-/// The variables as terms.
-fn variables(alloc: Global, numbers: &[u32]) -> Result<Items<Term>, AllocError>
-    ensures { IfOk result (λ made. made ≡ map Var numbers.now) }
-{
-    let mut made = Items::with_room(alloc, numbers.len())?;
-    for number in numbers {
-        made.push(Term::Var(*number))?;
-    }
-    Ok(made)
-}
-
-/// So many Skolem terms of these arguments, whose symbols' numbers ascend from the next one.
-#[tactic(auto, using(crate::proofs::Freshness::terms_more))]
-fn skolem_terms(
-    alloc: Global,
-    args: &[u32],
-    next: u32,
-    count: u32,
-) -> Result<Items<Term>, AllocError>
-    requires { next + count ≤ 65536 }
-    ensures { IfOk result (λ made. made ≡ skolem_terms next args.now count) }
-{
-    let mut made = Items::with_room(alloc, count as usize)?;
-    for place in 0..count {
-        let symbol = Symbol {
-            number: next + place,
-            kind: Kind::Function,
-        };
-        made.push(Term::App(symbol, variables(alloc, args)?))?;
-    }
-    Ok(made)
-}
-
 /// The block of an existential quantifier, with its Skolem terms; the only error is want of memory.
 ///
 /// No variable of the quantifier, and none that is bound in its part, is one of the blocks', and none is bound twice.
@@ -147,15 +123,13 @@ pub fn skolem_block(
     part: &Formula,
     next: u32,
 ) -> Result<Block, AllocError>
-    requires fresh { AreFresh blocks.now (numbers_from first count ++ bindings part.now) }
-    requires room { next + count ≤ 65536 }
+    requires { AreFresh blocks.now (numbers_from first count ++ bindings part.now) }
     ensures { IfOk result (λ b. (sign : Bool) → b ≡ existential_block first count (signed_form part.now sign) (place_below blocks.now next)) }
 {
     let args = skolem_arguments(alloc, blocks, part)?;
-    let terms = skolem_terms(alloc, args.as_slice(), next, count)?;
     Ok(Block {
         first,
         count,
-        terms,
+        skolems: Some(SkolemTerms { next, args }),
     })
 }

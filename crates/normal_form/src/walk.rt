@@ -6,24 +6,25 @@ ghost use Rattle.formulas.specs.Negations.{signed_form, all_of, some_hold};
 ghost use Rattle.formulas.specs.Counts.{form_count, clause_count};
 ghost use Rattle.normal_form.specs.declared.scope.Block.{Block};
 ghost use Rattle.normal_form.specs.Blocks.{place_below, term_in, numbers_from, for_each, for_any, universal_block, existential_block};
-ghost use Rattle.normal_form.specs.Gathering.{with_signed_atom};
+ghost use Rattle.normal_form.specs.Gathering.{with_signed_atom, IsGathered};
 ghost use Rattle.spl_terms.specs.Clauses.{IsEmpty, replace_in_atom};
-ghost use Rattle.normal_form.specs.Walking.{CanAdd, AreFresh, one_of, both_of, agreement, difference, with_chosen};
+ghost use Rattle.normal_form.specs.Walking.{CanAdd, AreFresh, one_of, both_of, agreement, difference, AddsChosen};
 ghost use Rattle.normal_form.specs.Law.{bindings};
 
-use crate::gathering::{Stop, add_literal};
+use crate::gathering::Gathering;
 use crate::scope::{Block, atom_instance};
 use crate::scoping::skolem_block;
+use crate::stop::Stop;
 use formulas::{Case, Count, Formula};
-use spl_terms::{Atom, Clause, Items};
-use std::alloc::Global;
+use spl_terms::{Atom, Items};
+use std::alloc::{AllocError, Global};
 
 /// What a walk to one list of literals carries: the scopes that it is in, and the clause that it fills.
 #[derive(Drop)]
 pub struct Walk {
     alloc: Global,
     pub scopes: Items<Block>,
-    pub clause: Clause,
+    pub clause: Gathering,
 }
 
 impl Walk {
@@ -35,7 +36,7 @@ impl Walk {
         Walk {
             alloc,
             scopes: Items::new(alloc),
-            clause: Clause::new(alloc),
+            clause: Gathering::new(alloc),
         }
     }
 }
@@ -60,30 +61,27 @@ fn count_either(left: &Formula, left_sign: bool, right: &Formula, right_sign: bo
 
 /// Adds an atom, with the terms of its scopes, as a literal.
 fn add_atom(walk: &mut Walk, atom: &Atom, sign: bool) -> Result<(), Stop>
-    ensures added { OnOk result (walk.new.clause ≡ with_signed_atom walk.old.clause
-        (record { sign = sign; atom = replace_in_atom (term_in walk.old.scopes) atom.now })) }
+    ensures added { IsGathered (with_signed_atom walk.old.clause
+        (record { sign = sign; atom = replace_in_atom (term_in walk.old.scopes) atom.now })) walk.new.clause result }
     ensures kept { walk.new.scopes ≡ walk.old.scopes }
 {
     match atom_instance(walk.alloc, walk.scopes.as_slice(), atom) {
-        Ok(atom) => add_literal(&mut walk.clause, sign, atom),
+        Ok(atom) => walk.clause.add(sign, atom),
         Err(_) => Err(Stop::Memory),
     }
 }
 
 /// Enters the scope of a universal quantifier.
-fn push_universal(walk: &mut Walk, first: u32, count: u32) -> Result<(), Stop>
+fn push_universal(walk: &mut Walk, first: u32, count: u32) -> Result<(), AllocError>
     ensures pushed { OnOk result (walk.new.scopes ≡ walk.old.scopes ++ universal_block first count ∷ []) }
     ensures kept { walk.new.clause ≡ walk.old.clause }
 {
     let block = Block {
         first,
         count,
-        terms: Items::new(walk.alloc),
+        skolems: None,
     };
-    match walk.scopes.push(block) {
-        Ok(()) => Ok(()),
-        Err(_) => Err(Stop::Memory),
-    }
+    walk.scopes.push(block)
 }
 
 /// Enters the scope of an existential quantifier over this part, with its Skolem terms.
@@ -93,20 +91,14 @@ fn push_existential(
     count: u32,
     part: &Formula,
     next: u32,
-) -> Result<(), Stop>
-    requires fresh { AreFresh walk.now.scopes (numbers_from first count ++ bindings part.now) }
-    requires room { next + count ≤ 65536 }
+) -> Result<(), AllocError>
+    requires { AreFresh walk.now.scopes (numbers_from first count ++ bindings part.now) }
     ensures pushed { OnOk result ((sign : Bool) → walk.new.scopes ≡ walk.old.scopes
         ++ existential_block first count (signed_form part.now sign) (place_below walk.old.scopes next) ∷ []) }
     ensures kept { walk.new.clause ≡ walk.old.clause }
 {
-    match skolem_block(walk.alloc, walk.scopes.as_slice(), first, count, part, next) {
-        Ok(block) => match walk.scopes.push(block) {
-            Ok(()) => Ok(()),
-            Err(_) => Err(Stop::Memory),
-        },
-        Err(_) => Err(Stop::Memory),
-    }
+    let block = skolem_block(walk.alloc, walk.scopes.as_slice(), first, count, part, next)?;
+    walk.scopes.push(block)
 }
 
 /// Adds the literals at this place, below the formula's count; next is the number of the next Skolem symbol.
@@ -120,8 +112,8 @@ pub fn add(
 ) -> Result<(), Stop>
     requires can { CanAdd (signed_form formula.now sign) next place }
     requires fresh { AreFresh walk.now.scopes (bindings formula.now) }
-    ensures added { OnOk result (walk.new.clause ≡ with_chosen walk.old.clause
-        (signed_form formula.now sign) walk.old.scopes next place) }
+    ensures added { AddsChosen walk.old.clause walk.new.clause walk.old.scopes
+        (signed_form formula.now sign) next place result }
     ensures kept { OnOk result (walk.new.scopes ≡ walk.old.scopes) }
 {
     if sign {
@@ -136,8 +128,8 @@ pub fn add(
 fn add_positive(walk: &mut Walk, formula: &Formula, next: u32, place: u32) -> Result<(), Stop>
     requires can { CanAdd (signed_form formula.now true) next place }
     requires fresh { AreFresh walk.now.scopes (bindings formula.now) }
-    ensures added { OnOk result (walk.new.clause ≡ with_chosen walk.old.clause
-        (signed_form formula.now true) walk.old.scopes next place) }
+    ensures added { AddsChosen walk.old.clause walk.new.clause walk.old.scopes
+        (signed_form formula.now true) next place result }
     ensures kept { OnOk result (walk.new.scopes ≡ walk.old.scopes) }
 {
     match formula.case() {
@@ -166,8 +158,8 @@ fn add_positive(walk: &mut Walk, formula: &Formula, next: u32, place: u32) -> Re
 fn add_negative(walk: &mut Walk, formula: &Formula, next: u32, place: u32) -> Result<(), Stop>
     requires can { CanAdd (signed_form formula.now false) next place }
     requires fresh { AreFresh walk.now.scopes (bindings formula.now) }
-    ensures added { OnOk result (walk.new.clause ≡ with_chosen walk.old.clause
-        (signed_form formula.now false) walk.old.scopes next place) }
+    ensures added { AddsChosen walk.old.clause walk.new.clause walk.old.scopes
+        (signed_form formula.now false) next place result }
     ensures kept { OnOk result (walk.new.scopes ≡ walk.old.scopes) }
 {
     match formula.case() {
@@ -205,13 +197,16 @@ fn add_both(
     requires can { CanAdd (one_of left.now left_sign right.now right_sign) next place }
     requires left { AreFresh walk.now.scopes (bindings left.now) }
     requires right { AreFresh walk.now.scopes (bindings right.now) }
-    ensures added { OnOk result (walk.new.clause ≡ with_chosen walk.old.clause
-        (one_of left.now left_sign right.now right_sign) walk.old.scopes next place) }
+    ensures added { AddsChosen walk.old.clause walk.new.clause walk.old.scopes
+        (one_of left.now left_sign right.now right_sign) next place result }
     ensures kept { OnOk result (walk.new.scopes ≡ walk.old.scopes) }
 {
     let skolems = count(left, left_sign).skolems;
     let rows = count(right, right_sign).clauses;
-    add(walk, left, left_sign, next, place / rows)?;
+    match add(walk, left, left_sign, next, place / rows) {
+        Ok(()) => {}
+        Err(stop) => return Err(stop),
+    }
     add(walk, right, right_sign, next + skolems, place % rows)
 }
 
@@ -229,8 +224,8 @@ fn add_one(
     requires can { CanAdd (both_of left.now left_sign right.now right_sign) next place }
     requires left { AreFresh walk.now.scopes (bindings left.now) }
     requires right { AreFresh walk.now.scopes (bindings right.now) }
-    ensures added { OnOk result (walk.new.clause ≡ with_chosen walk.old.clause
-        (both_of left.now left_sign right.now right_sign) walk.old.scopes next place) }
+    ensures added { AddsChosen walk.old.clause walk.new.clause walk.old.scopes
+        (both_of left.now left_sign right.now right_sign) next place result }
     ensures kept { OnOk result (walk.new.scopes ≡ walk.old.scopes) }
 {
     let first = count(left, left_sign);
@@ -259,8 +254,8 @@ fn add_equivalence(
     requires can { CanAdd (agreement left.now right.now) next place }
     requires left { AreFresh walk.now.scopes (bindings left.now) }
     requires right { AreFresh walk.now.scopes (bindings right.now) }
-    ensures added { OnOk result (walk.new.clause ≡ with_chosen walk.old.clause
-        (agreement left.now right.now) walk.old.scopes next place) }
+    ensures added { AddsChosen walk.old.clause walk.new.clause walk.old.scopes
+        (agreement left.now right.now) next place result }
     ensures kept { OnOk result (walk.new.scopes ≡ walk.old.scopes) }
 {
     let first = count_either(left, false, right, true);
@@ -291,8 +286,8 @@ fn add_difference(
     requires can { CanAdd (difference left.now right.now) next place }
     requires left { AreFresh walk.now.scopes (bindings left.now) }
     requires right { AreFresh walk.now.scopes (bindings right.now) }
-    ensures added { OnOk result (walk.new.clause ≡ with_chosen walk.old.clause
-        (difference left.now right.now) walk.old.scopes next place) }
+    ensures added { AddsChosen walk.old.clause walk.new.clause walk.old.scopes
+        (difference left.now right.now) next place result }
     ensures kept { OnOk result (walk.new.scopes ≡ walk.old.scopes) }
 {
     let first = count_either(left, true, right, true);
@@ -324,12 +319,18 @@ fn add_universal(
 ) -> Result<(), Stop>
     requires can { CanAdd (for_each first count (signed_form part.now sign)) next place }
     requires fresh { AreFresh walk.now.scopes (numbers_from first count ++ bindings part.now) }
-    ensures added { OnOk result (walk.new.clause ≡ with_chosen walk.old.clause
-        (for_each first count (signed_form part.now sign)) walk.old.scopes next place) }
+    ensures added { AddsChosen walk.old.clause walk.new.clause walk.old.scopes
+        (for_each first count (signed_form part.now sign)) next place result }
     ensures kept { OnOk result (walk.new.scopes ≡ walk.old.scopes) }
 {
-    push_universal(walk, first, count)?;
-    add(walk, part, sign, next, place)?;
+    match push_universal(walk, first, count) {
+        Ok(()) => {}
+        Err(_) => return Err(Stop::Memory),
+    }
+    match add(walk, part, sign, next, place) {
+        Ok(()) => {}
+        Err(stop) => return Err(stop),
+    }
     walk.scopes.pop();
     Ok(())
 }
@@ -347,12 +348,18 @@ fn add_existential(
 ) -> Result<(), Stop>
     requires can { CanAdd (for_any first count (signed_form part.now sign)) next place }
     requires fresh { AreFresh walk.now.scopes (numbers_from first count ++ bindings part.now) }
-    ensures added { OnOk result (walk.new.clause ≡ with_chosen walk.old.clause
-        (for_any first count (signed_form part.now sign)) walk.old.scopes next place) }
+    ensures added { AddsChosen walk.old.clause walk.new.clause walk.old.scopes
+        (for_any first count (signed_form part.now sign)) next place result }
     ensures kept { OnOk result (walk.new.scopes ≡ walk.old.scopes) }
 {
-    push_existential(walk, first, count, part, next)?;
-    add(walk, part, sign, next + count, place)?;
+    match push_existential(walk, first, count, part, next) {
+        Ok(()) => {}
+        Err(_) => return Err(Stop::Memory),
+    }
+    match add(walk, part, sign, next + count, place) {
+        Ok(()) => {}
+        Err(stop) => return Err(stop),
+    }
     walk.scopes.pop();
     Ok(())
 }
@@ -368,8 +375,8 @@ fn add_in_one(
 ) -> Result<(), Stop>
     requires can { CanAdd (all_of sign parts.now) next place }
     requires fresh { AreFresh walk.now.scopes (flat_map bindings parts.now) }
-    ensures added { OnOk result (walk.new.clause ≡ with_chosen walk.old.clause
-        (all_of sign parts.now) walk.old.scopes next place) }
+    ensures added { AddsChosen walk.old.clause walk.new.clause walk.old.scopes
+        (all_of sign parts.now) next place result }
     ensures kept { OnOk result (walk.new.scopes ≡ walk.old.scopes) }
 {
     let mut next = next;
@@ -398,8 +405,8 @@ fn add_in_each(
     requires can { CanAdd (some_hold sign parts.now) next place }
     requires exact { rest ≡ clause_count (some_hold sign parts.now) }
     requires fresh { AreFresh walk.now.scopes (flat_map bindings parts.now) }
-    ensures added { OnOk result (walk.new.clause ≡ with_chosen walk.old.clause
-        (some_hold sign parts.now) walk.old.scopes next place) }
+    ensures added { AddsChosen walk.old.clause walk.new.clause walk.old.scopes
+        (some_hold sign parts.now) next place result }
     ensures kept { OnOk result (walk.new.scopes ≡ walk.old.scopes) }
 {
     let mut next = next;
@@ -408,7 +415,10 @@ fn add_in_each(
     for part in parts {
         let count = count(part, sign);
         rest /= count.clauses;
-        add(walk, part, sign, next, place / rest)?;
+        match add(walk, part, sign, next, place / rest) {
+            Ok(()) => {}
+            Err(stop) => return Err(stop),
+        }
         place %= rest;
         next += count.skolems;
     }

@@ -2,7 +2,6 @@
 //! bars. It is printed, and behind it what came of the case; a line without bars is only printed.
 #![tactic(auto)]
 
-mod literals;
 mod pieces;
 mod problems;
 mod proof_lines;
@@ -26,8 +25,6 @@ fn show_text(rt: &HostRuntime, what: &str, text: &str) -> io::Result<()> {
         "name" => words::show_name(rt, bytes),
         "spelling" => words::show_spelling(rt),
         "formula" => trees::show_formula(rt, alloc, bytes),
-        "instance" => literals::show_instance(rt, alloc),
-        "literals" => literals::show_literals(rt, alloc),
         _ => proof_lines::show_proof(rt, alloc),
     }
 }

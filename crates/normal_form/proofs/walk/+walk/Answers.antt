@@ -1,4 +1,4 @@
-use Rattle.std.proofs.Common.{◌≡◌, [], ◌∷◌, ◌++◌, ℕ, ◌+◌, ◌/◌, ◌%◌, ◌<◌, List, drop, true, false, OnOk, refl, sym, subst, ap, ◌∙◌, arith}
+use Rattle.std.proofs.Common.{◌≡◌, [], ◌∷◌, ◌++◌, ℕ, ◌+◌, ◌/◌, ◌%◌, ◌<◌, List, drop, true, false, Err, refl, sym, subst, ap, ◌∙◌, arith}
 use Rattle.formulas.specs.Negations.{Form, signed_form}
 use Rattle.formulas.specs.Counts.{clause_count, existentials}
 use Rattle.formulas.specs.FormLaws.{form-True, form-False, form-Atom, form-Not, form-Implies, form-not_Implies, form-Equiv, form-not_Equiv, form-And, form-Or}
@@ -6,14 +6,15 @@ use Rattle.normal_form.specs.Choices.{literals_chosen, chosen_in_each, product_c
 use Rattle.normal_form.specs.Skolem.{Place, behind}
 use Rattle.normal_form.specs.Blocks.{place_below, universal_block, existential_block}
 use Rattle.normal_form.proofs.BlockLemmas.{form-foralls, form-not_foralls, form-exists, form-not_exists, place-universal, place-existential, chosen-for_each, chosen-for_any}
-use Rattle.normal_form.specs.Gathering.{gathered}
+use Rattle.normal_form.specs.Gathering.{gathered, IsGathered}
 use Rattle.normal_form.specs.Walking.{CanAdd, AreFresh}
 use Rattle.normal_form.specs.Law.{bindings}
 use Rattle.normal_form.proofs.Freshness.{bindings-Not, bindings-And, bindings-Or, bindings-Implies, bindings-Equiv, bindings-foralls, bindings-exists, fresh_left, fresh_right, fresh_part, fresh_behind}
 use Rattle.normal_form.specs.declared.scope.Block.{Block}
 use Rattle.normal_form.proofs.Walks.{can_left, can_right, can_universal, can_existential, exact_clauses, exact_skolems}
-use Rattle.normal_form.proofs.Finding.{forms_of, CanTake}
-use Rattle.normal_form.proofs.Found.{can_find, here, next_found, popped, can_take, next_taken, next_made, element_most, drop_past, gathered_two}
+use Rattle.normal_form.specs.Listing.{forms_of}
+use Rattle.normal_form.proofs.Finding.{CanTake}
+use Rattle.normal_form.proofs.Found.{can_find, here, next_found, popped, can_take, next_taken, next_made, element_most, drop_past, gathered_two, stopped}
 use Rattle.normal_form.proofs.Several.{all_chosen, some_chosen}
 use Rattle.normal_form.proofs.walk.+walk.Goals as goal
 
@@ -27,7 +28,7 @@ add_positive-returns-in-False-clause-added t c =
 
 pub add_positive-returns-in-Atom-clause-added : goal.add_positive-returns-in-Atom-clause-added
 add_positive-returns-in-Atom-clause-added t c =
-    subst (λ f. OnOk c.add_atom.result (c.add_atom.new.walk.clause ≡ gathered c.args.walk.now.clause (literals_chosen f (place_below c.args.walk.now.scopes c.args.next) c.args.place)))
+    subst (λ f. IsGathered (gathered c.args.walk.now.clause (literals_chosen f (place_below c.args.walk.now.scopes c.args.next) c.args.place)) c.add_atom.new.walk.clause c.add_atom.result)
     (sym (ap (λ u. signed_form u true) c.in-Atom.ensures.shown ∙ form-Atom c.in-Atom.atom.now true)) c.add_atom.ensures.added
 
 pub add_positive-add_negative-requires : goal.add_positive-add_negative-requires
@@ -38,7 +39,7 @@ add_positive-add_negative-requires t c = (
 
 pub add_positive-returns-in-Not-clause-added : goal.add_positive-returns-in-Not-clause-added
 add_positive-returns-in-Not-clause-added t c =
-    subst (λ f. OnOk c.add_negative.result (c.add_negative.new.walk.clause ≡ gathered c.args.walk.now.clause (literals_chosen f (place_below c.args.walk.now.scopes c.args.next) c.args.place)))
+    subst (λ f. IsGathered (gathered c.args.walk.now.clause (literals_chosen f (place_below c.args.walk.now.scopes c.args.next) c.args.place)) c.add_negative.new.walk.clause c.add_negative.result)
     (sym (ap (λ u. signed_form u true) c.in-Not.ensures.shown ∙ form-Not c.in-Not.part.now true)) c.add_negative.ensures.added
 
 pub add_positive-add_both-requires : goal.add_positive-add_both-requires
@@ -49,7 +50,7 @@ add_positive-add_both-requires t c = (
 
 pub add_positive-returns-in-Implies-clause-added : goal.add_positive-returns-in-Implies-clause-added
 add_positive-returns-in-Implies-clause-added t c =
-    subst (λ f. OnOk c.add_both.result (c.add_both.new.walk.clause ≡ gathered c.args.walk.now.clause (literals_chosen f (place_below c.args.walk.now.scopes c.args.next) c.args.place)))
+    subst (λ f. IsGathered (gathered c.args.walk.now.clause (literals_chosen f (place_below c.args.walk.now.scopes c.args.next) c.args.place)) c.add_both.new.walk.clause c.add_both.result)
     (sym (ap (λ u. signed_form u true) c.in-Implies.ensures.shown ∙ form-Implies c.in-Implies.left.now c.in-Implies.right.now)) c.add_both.ensures.added
 
 pub add_positive-add_in_one-requires : goal.add_positive-add_in_one-requires
@@ -60,7 +61,7 @@ add_positive-add_in_one-requires t c = (
 
 pub add_positive-returns-in-And-clause-added : goal.add_positive-returns-in-And-clause-added
 add_positive-returns-in-And-clause-added t c =
-    subst (λ f. OnOk c.add_in_one.result (c.add_in_one.new.walk.clause ≡ gathered c.args.walk.now.clause (literals_chosen f (place_below c.args.walk.now.scopes c.args.next) c.args.place)))
+    subst (λ f. IsGathered (gathered c.args.walk.now.clause (literals_chosen f (place_below c.args.walk.now.scopes c.args.next) c.args.place)) c.add_in_one.new.walk.clause c.add_in_one.result)
     (sym (ap (λ u. signed_form u true) c.in-And.ensures.shown ∙ form-And c.in-And.parts.now true)) c.add_in_one.ensures.added
 
 pub add_positive-add_in_each-requires : goal.add_positive-add_in_each-requires
@@ -74,7 +75,7 @@ add_positive-add_in_each-requires t c = (
 
 pub add_positive-returns-in-Or-clause-added : goal.add_positive-returns-in-Or-clause-added
 add_positive-returns-in-Or-clause-added t c =
-    subst (λ f. OnOk c.add_in_each.result (c.add_in_each.new.walk.clause ≡ gathered c.args.walk.now.clause (literals_chosen f (place_below c.args.walk.now.scopes c.args.next) c.args.place)))
+    subst (λ f. IsGathered (gathered c.args.walk.now.clause (literals_chosen f (place_below c.args.walk.now.scopes c.args.next) c.args.place)) c.add_in_each.new.walk.clause c.add_in_each.result)
     (sym (ap (λ u. signed_form u true) c.in-Or.ensures.shown ∙ form-Or c.in-Or.parts.now true)) c.add_in_each.ensures.added
 
 pub add_positive-add_equivalence-requires : goal.add_positive-add_equivalence-requires
@@ -85,7 +86,7 @@ add_positive-add_equivalence-requires t c = (
 
 pub add_positive-returns-in-Equiv-clause-added : goal.add_positive-returns-in-Equiv-clause-added
 add_positive-returns-in-Equiv-clause-added t c =
-    subst (λ f. OnOk c.add_equivalence.result (c.add_equivalence.new.walk.clause ≡ gathered c.args.walk.now.clause (literals_chosen f (place_below c.args.walk.now.scopes c.args.next) c.args.place)))
+    subst (λ f. IsGathered (gathered c.args.walk.now.clause (literals_chosen f (place_below c.args.walk.now.scopes c.args.next) c.args.place)) c.add_equivalence.new.walk.clause c.add_equivalence.result)
     (sym (ap (λ u. signed_form u true) c.in-Equiv.ensures.shown ∙ form-Equiv c.in-Equiv.left.now c.in-Equiv.right.now)) c.add_equivalence.ensures.added
 
 pub add_positive-add_universal-requires : goal.add_positive-add_universal-requires
@@ -96,7 +97,7 @@ add_positive-add_universal-requires t c = (
 
 pub add_positive-returns-in-Forall-clause-added : goal.add_positive-returns-in-Forall-clause-added
 add_positive-returns-in-Forall-clause-added t c =
-    subst (λ f. OnOk c.add_universal.result (c.add_universal.new.walk.clause ≡ gathered c.args.walk.now.clause (literals_chosen f (place_below c.args.walk.now.scopes c.args.next) c.args.place)))
+    subst (λ f. IsGathered (gathered c.args.walk.now.clause (literals_chosen f (place_below c.args.walk.now.scopes c.args.next) c.args.place)) c.add_universal.new.walk.clause c.add_universal.result)
     (sym (ap (λ u. signed_form u true) c.in-Forall.ensures.shown ∙ form-foralls c.in-Forall.first c.in-Forall.count c.in-Forall.part.now)) c.add_universal.ensures.added
 
 pub add_positive-add_existential-requires : goal.add_positive-add_existential-requires
@@ -107,7 +108,7 @@ add_positive-add_existential-requires t c = (
 
 pub add_positive-returns-in-Exists-clause-added : goal.add_positive-returns-in-Exists-clause-added
 add_positive-returns-in-Exists-clause-added t c =
-    subst (λ f. OnOk c.add_existential.result (c.add_existential.new.walk.clause ≡ gathered c.args.walk.now.clause (literals_chosen f (place_below c.args.walk.now.scopes c.args.next) c.args.place)))
+    subst (λ f. IsGathered (gathered c.args.walk.now.clause (literals_chosen f (place_below c.args.walk.now.scopes c.args.next) c.args.place)) c.add_existential.new.walk.clause c.add_existential.result)
     (sym (ap (λ u. signed_form u true) c.in-Exists.ensures.shown ∙ form-exists c.in-Exists.first c.in-Exists.count c.in-Exists.part.now)) c.add_existential.ensures.added
 
 pub add_negative-returns-in-True-clause-added : goal.add_negative-returns-in-True-clause-added
@@ -120,7 +121,7 @@ add_negative-returns-in-False-clause-added t c =
 
 pub add_negative-returns-in-Atom-clause-added : goal.add_negative-returns-in-Atom-clause-added
 add_negative-returns-in-Atom-clause-added t c =
-    subst (λ f. OnOk c.add_atom.result (c.add_atom.new.walk.clause ≡ gathered c.args.walk.now.clause (literals_chosen f (place_below c.args.walk.now.scopes c.args.next) c.args.place)))
+    subst (λ f. IsGathered (gathered c.args.walk.now.clause (literals_chosen f (place_below c.args.walk.now.scopes c.args.next) c.args.place)) c.add_atom.new.walk.clause c.add_atom.result)
     (sym (ap (λ u. signed_form u false) c.in-Atom.ensures.shown ∙ form-Atom c.in-Atom.atom.now false)) c.add_atom.ensures.added
 
 pub add_negative-add_positive-requires : goal.add_negative-add_positive-requires
@@ -131,7 +132,7 @@ add_negative-add_positive-requires t c = (
 
 pub add_negative-returns-in-Not-clause-added : goal.add_negative-returns-in-Not-clause-added
 add_negative-returns-in-Not-clause-added t c =
-    subst (λ f. OnOk c.add_positive.result (c.add_positive.new.walk.clause ≡ gathered c.args.walk.now.clause (literals_chosen f (place_below c.args.walk.now.scopes c.args.next) c.args.place)))
+    subst (λ f. IsGathered (gathered c.args.walk.now.clause (literals_chosen f (place_below c.args.walk.now.scopes c.args.next) c.args.place)) c.add_positive.new.walk.clause c.add_positive.result)
     (sym (ap (λ u. signed_form u false) c.in-Not.ensures.shown ∙ form-Not c.in-Not.part.now false)) c.add_positive.ensures.added
 
 pub add_negative-add_one-requires : goal.add_negative-add_one-requires
@@ -142,7 +143,7 @@ add_negative-add_one-requires t c = (
 
 pub add_negative-returns-in-Implies-clause-added : goal.add_negative-returns-in-Implies-clause-added
 add_negative-returns-in-Implies-clause-added t c =
-    subst (λ f. OnOk c.add_one.result (c.add_one.new.walk.clause ≡ gathered c.args.walk.now.clause (literals_chosen f (place_below c.args.walk.now.scopes c.args.next) c.args.place)))
+    subst (λ f. IsGathered (gathered c.args.walk.now.clause (literals_chosen f (place_below c.args.walk.now.scopes c.args.next) c.args.place)) c.add_one.new.walk.clause c.add_one.result)
     (sym (ap (λ u. signed_form u false) c.in-Implies.ensures.shown ∙ form-not_Implies c.in-Implies.left.now c.in-Implies.right.now)) c.add_one.ensures.added
 
 pub add_negative-add_in_each-requires : goal.add_negative-add_in_each-requires
@@ -156,7 +157,7 @@ add_negative-add_in_each-requires t c = (
 
 pub add_negative-returns-in-And-clause-added : goal.add_negative-returns-in-And-clause-added
 add_negative-returns-in-And-clause-added t c =
-    subst (λ f. OnOk c.add_in_each.result (c.add_in_each.new.walk.clause ≡ gathered c.args.walk.now.clause (literals_chosen f (place_below c.args.walk.now.scopes c.args.next) c.args.place)))
+    subst (λ f. IsGathered (gathered c.args.walk.now.clause (literals_chosen f (place_below c.args.walk.now.scopes c.args.next) c.args.place)) c.add_in_each.new.walk.clause c.add_in_each.result)
     (sym (ap (λ u. signed_form u false) c.in-And.ensures.shown ∙ form-And c.in-And.parts.now false)) c.add_in_each.ensures.added
 
 pub add_negative-add_in_one-requires : goal.add_negative-add_in_one-requires
@@ -167,7 +168,7 @@ add_negative-add_in_one-requires t c = (
 
 pub add_negative-returns-in-Or-clause-added : goal.add_negative-returns-in-Or-clause-added
 add_negative-returns-in-Or-clause-added t c =
-    subst (λ f. OnOk c.add_in_one.result (c.add_in_one.new.walk.clause ≡ gathered c.args.walk.now.clause (literals_chosen f (place_below c.args.walk.now.scopes c.args.next) c.args.place)))
+    subst (λ f. IsGathered (gathered c.args.walk.now.clause (literals_chosen f (place_below c.args.walk.now.scopes c.args.next) c.args.place)) c.add_in_one.new.walk.clause c.add_in_one.result)
     (sym (ap (λ u. signed_form u false) c.in-Or.ensures.shown ∙ form-Or c.in-Or.parts.now false)) c.add_in_one.ensures.added
 
 pub add_negative-add_difference-requires : goal.add_negative-add_difference-requires
@@ -178,7 +179,7 @@ add_negative-add_difference-requires t c = (
 
 pub add_negative-returns-in-Equiv-clause-added : goal.add_negative-returns-in-Equiv-clause-added
 add_negative-returns-in-Equiv-clause-added t c =
-    subst (λ f. OnOk c.add_difference.result (c.add_difference.new.walk.clause ≡ gathered c.args.walk.now.clause (literals_chosen f (place_below c.args.walk.now.scopes c.args.next) c.args.place)))
+    subst (λ f. IsGathered (gathered c.args.walk.now.clause (literals_chosen f (place_below c.args.walk.now.scopes c.args.next) c.args.place)) c.add_difference.new.walk.clause c.add_difference.result)
     (sym (ap (λ u. signed_form u false) c.in-Equiv.ensures.shown ∙ form-not_Equiv c.in-Equiv.left.now c.in-Equiv.right.now)) c.add_difference.ensures.added
 
 pub add_negative-add_existential-requires : goal.add_negative-add_existential-requires
@@ -189,7 +190,7 @@ add_negative-add_existential-requires t c = (
 
 pub add_negative-returns-in-Forall-clause-added : goal.add_negative-returns-in-Forall-clause-added
 add_negative-returns-in-Forall-clause-added t c =
-    subst (λ f. OnOk c.add_existential.result (c.add_existential.new.walk.clause ≡ gathered c.args.walk.now.clause (literals_chosen f (place_below c.args.walk.now.scopes c.args.next) c.args.place)))
+    subst (λ f. IsGathered (gathered c.args.walk.now.clause (literals_chosen f (place_below c.args.walk.now.scopes c.args.next) c.args.place)) c.add_existential.new.walk.clause c.add_existential.result)
     (sym (ap (λ u. signed_form u false) c.in-Forall.ensures.shown ∙ form-not_foralls c.in-Forall.first c.in-Forall.count c.in-Forall.part.now)) c.add_existential.ensures.added
 
 pub add_negative-add_universal-requires : goal.add_negative-add_universal-requires
@@ -200,7 +201,7 @@ add_negative-add_universal-requires t c = (
 
 pub add_negative-returns-in-Exists-clause-added : goal.add_negative-returns-in-Exists-clause-added
 add_negative-returns-in-Exists-clause-added t c =
-    subst (λ f. OnOk c.add_universal.result (c.add_universal.new.walk.clause ≡ gathered c.args.walk.now.clause (literals_chosen f (place_below c.args.walk.now.scopes c.args.next) c.args.place)))
+    subst (λ f. IsGathered (gathered c.args.walk.now.clause (literals_chosen f (place_below c.args.walk.now.scopes c.args.next) c.args.place)) c.add_universal.new.walk.clause c.add_universal.result)
     (sym (ap (λ u. signed_form u false) c.in-Exists.ensures.shown ∙ form-not_exists c.in-Exists.first c.in-Exists.count c.in-Exists.part.now)) c.add_universal.ensures.added
 
 pub add-add_positive-requires : goal.add-add_positive-requires
@@ -208,7 +209,7 @@ add-add_positive-requires t c = (omega (arith, c.decreases), (subst (λ b. CanAd
 
 pub add-returns-then-sign-clause-added : goal.add-returns-then-sign-clause-added
 add-returns-then-sign-clause-added t c =
-    subst (λ b. OnOk c.add_positive.result (c.add_positive.new.walk.clause ≡ gathered c.args.walk.now.clause (literals_chosen (signed_form c.args.formula.now b) (place_below c.args.walk.now.scopes c.args.next) c.args.place)))
+    subst (λ b. IsGathered (gathered c.args.walk.now.clause (literals_chosen (signed_form c.args.formula.now b) (place_below c.args.walk.now.scopes c.args.next) c.args.place)) c.add_positive.new.walk.clause c.add_positive.result)
     (sym c.if-sign.true) c.add_positive.ensures.added
 
 pub add-add_negative-requires : goal.add-add_negative-requires
@@ -216,7 +217,7 @@ add-add_negative-requires t c = (omega (arith, c.decreases), (subst (λ b. CanAd
 
 pub add-returns-else-sign-clause-added : goal.add-returns-else-sign-clause-added
 add-returns-else-sign-clause-added t c =
-    subst (λ b. OnOk c.add_negative.result (c.add_negative.new.walk.clause ≡ gathered c.args.walk.now.clause (literals_chosen (signed_form c.args.formula.now b) (place_below c.args.walk.now.scopes c.args.next) c.args.place)))
+    subst (λ b. IsGathered (gathered c.args.walk.now.clause (literals_chosen (signed_form c.args.formula.now b) (place_below c.args.walk.now.scopes c.args.next) c.args.place)) c.add_negative.new.walk.clause c.add_negative.result)
     (sym c.if-sign.false) c.add_negative.ensures.added
 
 pub add_both-add-requires : goal.add_both-add-requires
@@ -232,13 +233,13 @@ add_both-add-requires-2 t c =
     let g : Form = signed_form c.args.right.now c.args.right_sign in
     let rows : c.count-rows.result.clauses ≡ clause_count g = ap (λ x. x.clauses) c.count-rows.ensures ∙ exact_clauses g (can_right f g c.args.next c.args.place c.requires.can).few in
     let skolems : c.count-skolems.result.skolems ≡ existentials f = ap (λ x. x.skolems) c.count-skolems.ensures ∙ exact_skolems f (let room = (can_left f g c.args.next c.args.place c.requires.can).room in omega arith) in
-    (omega (arith, c.decreases), (subst (λ n. CanAdd g (c.args.next + c.count-skolems.result.skolems) (c.args.place % n)) (sym rows) (subst (λ n. CanAdd g (c.args.next + n) (c.args.place % clause_count g)) (sym skolems) (can_right f g c.args.next c.args.place c.requires.can)), subst (λ bs. AreFresh bs (bindings c.args.right.now)) (sym c.in_ok-add.ensures.kept) c.requires.right)))
+    (omega (arith, c.decreases), (subst (λ n. CanAdd g (c.args.next + c.count-skolems.result.skolems) (c.args.place % n)) (sym rows) (subst (λ n. CanAdd g (c.args.next + n) (c.args.place % clause_count g)) (sym skolems) (can_right f g c.args.next c.args.place c.requires.can)), subst (λ bs. AreFresh bs (bindings c.args.right.now)) (sym c.in-Ok.ensures.kept) c.requires.right)))
 
 pub add_universal-add-requires : goal.add_universal-add-requires
 add_universal-add-requires t c =
     (let f : Form = signed_form c.args.part.now c.args.sign in
     let b : Block = universal_block c.args.first c.args.count in
-    let pushed : c.push_universal.new.walk.scopes ≡ c.args.walk.now.scopes ++ b ∷ [] = c.in_ok-push_universal.ensures.pushed in (
+    let pushed : c.push_universal.new.walk.scopes ≡ c.args.walk.now.scopes ++ b ∷ [] = c.in-Ok.ensures.pushed in (
       omega (arith, c.decreases),
       (can_universal c.args.first c.args.count f c.args.next c.args.place c.requires.can, subst (λ bs. AreFresh bs (bindings c.args.part.now)) (sym pushed) (fresh_behind c.args.walk.now.scopes b (bindings c.args.part.now) c.requires.fresh)),
     ))
@@ -247,15 +248,11 @@ pub add_universal-returns-clause-added : goal.add_universal-returns-clause-added
 add_universal-returns-clause-added t c =
     (let f : Form = signed_form c.args.part.now c.args.sign in
     let b : Block = universal_block c.args.first c.args.count in
-    let pushed : c.push_universal.new.walk.scopes ≡ c.args.walk.now.scopes ++ b ∷ [] = c.in_ok-push_universal.ensures.pushed in
-    c.in_ok-add.ensures.added
+    let pushed : c.push_universal.new.walk.scopes ≡ c.args.walk.now.scopes ++ b ∷ [] = c.in-Ok.ensures.pushed in
+    c.in-Ok-add.ensures.added
     ∙ ap (λ d. gathered d (literals_chosen f (place_below c.push_universal.new.walk.scopes c.args.next) c.args.place)) c.push_universal.ensures.kept
     ∙ ap (λ p. gathered c.args.walk.now.clause (literals_chosen f p c.args.place)) (ap (λ bs. place_below bs c.args.next) pushed ∙ place-universal c.args.walk.now.scopes c.args.first c.args.count c.args.next)
     ∙ ap (gathered c.args.walk.now.clause) (sym (chosen-for_each c.args.first c.args.count f (place_below c.args.walk.now.scopes c.args.next) c.args.place)))
-
-pub add_existential-push_existential-requires-clause-room : goal.add_existential-push_existential-requires-clause-room
-add_existential-push_existential-requires-clause-room t c =
-    (let room = (can_existential c.args.first c.args.count (signed_form c.args.part.now c.args.sign) c.args.next c.args.place c.requires.can).room in omega (arith, room))
 
 pub add_existential-overflow_add-next : goal.add_existential-overflow_add-next
 add_existential-overflow_add-next t c =
@@ -264,13 +261,13 @@ add_existential-overflow_add-next t c =
 pub add_existential-returns-clause-kept : goal.add_existential-returns-clause-kept
 add_existential-returns-clause-kept t c =
     popped c.args.walk.now.scopes c.pop.new.self c.add.new.walk.scopes (existential_block c.args.first c.args.count (signed_form c.args.part.now c.args.sign) (place_below c.args.walk.now.scopes c.args.next)) c.pop.result
-    (c.in_ok-add.ensures.kept ∙ c.in_ok-push_existential.ensures.pushed c.args.sign) c.pop.ensures
+    (c.in-Ok-add.ensures.kept ∙ c.in-Ok.ensures.pushed c.args.sign) c.pop.ensures
 
 pub add_existential-add-requires : goal.add_existential-add-requires
 add_existential-add-requires t c =
     (let f : Form = signed_form c.args.part.now c.args.sign in
     let b : Block = existential_block c.args.first c.args.count f (place_below c.args.walk.now.scopes c.args.next) in
-    let pushed : c.push_existential.new.walk.scopes ≡ c.args.walk.now.scopes ++ b ∷ [] = c.in_ok-push_existential.ensures.pushed c.args.sign in (
+    let pushed : c.push_existential.new.walk.scopes ≡ c.args.walk.now.scopes ++ b ∷ [] = c.in-Ok.ensures.pushed c.args.sign in (
       omega (arith, c.decreases),
       (can_existential c.args.first c.args.count f c.args.next c.args.place c.requires.can, subst (λ bs. AreFresh bs (bindings c.args.part.now)) (sym pushed) (fresh_behind c.args.walk.now.scopes b (bindings c.args.part.now) c.requires.fresh)),
     ))
@@ -279,8 +276,8 @@ pub add_existential-returns-clause-added : goal.add_existential-returns-clause-a
 add_existential-returns-clause-added t c =
     (let f : Form = signed_form c.args.part.now c.args.sign in
     let b : Block = existential_block c.args.first c.args.count f (place_below c.args.walk.now.scopes c.args.next) in
-    let pushed : c.push_existential.new.walk.scopes ≡ c.args.walk.now.scopes ++ b ∷ [] = c.in_ok-push_existential.ensures.pushed c.args.sign in
-    c.in_ok-add.ensures.added
+    let pushed : c.push_existential.new.walk.scopes ≡ c.args.walk.now.scopes ++ b ∷ [] = c.in-Ok.ensures.pushed c.args.sign in
+    c.in-Ok-add.ensures.added
     ∙ ap (λ d. gathered d (literals_chosen f (place_below c.push_existential.new.walk.scopes (c.args.next + c.args.count)) c.args.place)) c.push_existential.ensures.kept
     ∙ ap (λ p. gathered c.args.walk.now.clause (literals_chosen f p c.args.place)) (ap (λ bs. place_below bs (c.args.next + c.args.count)) pushed ∙ place-existential c.args.walk.now.scopes c.args.first c.args.count c.args.next f)
     ∙ ap (gathered c.args.walk.now.clause) (sym (chosen-for_any c.args.first c.args.count f (place_below c.args.walk.now.scopes c.args.next) c.args.place)))
@@ -314,7 +311,7 @@ add_in_one-returns-then-place-count-clause-added t c =
     let picked = here c.args.sign c.args.parts.now c.loop-part.part-index c.part-item.result (place_below c.args.walk.now.scopes c.loop-part.next) c.loop-part.place c.loop-part-test.true c.part-item.is below in
     let all = all_chosen fs (place_below c.args.walk.now.scopes c.args.next) c.args.place c.requires.can.within in
     let list = ap (λ bs. literals_chosen f (place_below bs c.loop-part.next) c.loop-part.place) c.loop-part.invariant.kept ∙ sym picked ∙ c.loop-part.invariant.same ∙ sym all in
-    subst (λ made. OnOk c.add.result (c.add.new.walk.clause ≡ made)) (λ i. gathered (c.loop-part.invariant.as_before i) (list i)) c.add.ensures.added)
+    subst (λ made. IsGathered made c.add.new.walk.clause c.add.result) (λ i. gathered (c.loop-part.invariant.as_before i) (list i)) c.add.ensures.added)
 
 pub add_in_each-loop-part-init : goal.add_in_each-loop-part-init
 add_in_each-loop-part-init t c = record {
@@ -360,12 +357,12 @@ add_in_each-loop-part-preserved t c =
     record {
       can = subst (λ n. CanTake fs (next + c.count-count.result.skolems) (place % n) n) (sym d) (subst (λ n. CanTake fs (next + n) (place % product_count fs) (product_count fs)) (sym sk) taken.later);
       made =
-          ap (λ m. gathered m (chosen_in_each fs (place_below c.args.walk.now.scopes (next + c.count-count.result.skolems)) (place % (c.loop-part.rest / c.count-count.result.clauses)))) c.in_ok-add.ensures.added
+          ap (λ m. gathered m (chosen_in_each fs (place_below c.args.walk.now.scopes (next + c.count-count.result.skolems)) (place % (c.loop-part.rest / c.count-count.result.clauses)))) c.in-Ok.ensures.added
           ∙ (λ i. gathered (gathered c.loop-part.walk.clause (literals_chosen f (place_below (c.loop-part.invariant.kept i) next) (place / d i))) (chosen_in_each fs (place_below c.args.walk.now.scopes (next + sk i)) (place % d i)))
           ∙ sym (gathered_two c.loop-part.walk.clause (literals_chosen f p (place / product_count fs)) (chosen_in_each fs (behind f p) (place % product_count fs)))
           ∙ ap (gathered c.loop-part.walk.clause) (sym list)
           ∙ c.loop-part.invariant.made;
-      kept = c.in_ok-add.ensures.kept ∙ c.loop-part.invariant.kept;
+      kept = c.in-Ok.ensures.kept ∙ c.loop-part.invariant.kept;
     })
 
 pub add_in_each-returns-clause-added : goal.add_in_each-returns-clause-added
@@ -376,3 +373,63 @@ add_in_each-returns-clause-added t c =
     sym (ap (λ us. gathered c.loop-part.walk.clause (chosen_in_each (forms_of c.args.sign us) (place_below c.args.walk.now.scopes c.loop-part.next) c.loop-part.place)) none)
     ∙ c.loop-part.invariant.made
     ∙ ap (gathered c.args.walk.now.clause) (sym (some_chosen fs (place_below c.args.walk.now.scopes c.args.next) c.args.place can.within)))
+
+pub add_both-returns-in-Err-clause-added : goal.add_both-returns-in-Err-clause-added
+add_both-returns-in-Err-clause-added t c =
+    (let f : Form = signed_form c.args.left.now c.args.left_sign in
+    let g : Form = signed_form c.args.right.now c.args.right_sign in
+    let p : Place = place_below c.args.walk.now.scopes c.args.next in
+    let rows : c.count-rows.result.clauses ≡ clause_count g = ap (λ x. x.clauses) c.count-rows.ensures ∙ exact_clauses g (can_right f g c.args.next c.args.place c.requires.can).few in
+    let here' = subst (λ n. IsGathered {T = Unit {0}} (gathered c.args.walk.now.clause (literals_chosen f p (c.args.place / n))) c.add.new.walk.clause (Err c.in-Err.stop)) rows c.in-Err.ensures.added in
+    stopped c.args.walk.now.clause (literals_chosen f p (c.args.place / clause_count g)) (literals_chosen g (behind f p) (c.args.place % clause_count g)) c.add.new.walk.clause c.add.new.walk.clause c.in-Err.stop here')
+
+pub add_both-returns-clause-added : goal.add_both-returns-clause-added
+add_both-returns-clause-added t c =
+    (let f : Form = signed_form c.args.left.now c.args.left_sign in
+    let g : Form = signed_form c.args.right.now c.args.right_sign in
+    let p : Place = place_below c.args.walk.now.scopes c.args.next in
+    let rows : c.count-rows.result.clauses ≡ clause_count g = ap (λ x. x.clauses) c.count-rows.ensures ∙ exact_clauses g (can_right f g c.args.next c.args.place c.requires.can).few in
+    let skolems : c.count-skolems.result.skolems ≡ existentials f = ap (λ x. x.skolems) c.count-skolems.ensures ∙ exact_skolems f (let room = (can_left f g c.args.next c.args.place c.requires.can).room in omega arith) in
+    let made : c.add.new.walk.clause ≡ gathered c.args.walk.now.clause (literals_chosen f p (c.args.place / clause_count g)) = c.in-Ok.ensures.added ∙ ap (λ n. gathered c.args.walk.now.clause (literals_chosen f p (c.args.place / n))) rows in
+    subst (λ m. IsGathered m c.add-2.new.walk.clause c.add-2.result)
+    ((λ i. gathered (made i) (literals_chosen g (place_below (c.in-Ok.ensures.kept i) (c.args.next + skolems i)) (c.args.place % rows i)))
+    ∙ sym (gathered_two c.args.walk.now.clause (literals_chosen f p (c.args.place / clause_count g)) (literals_chosen g (behind f p) (c.args.place % clause_count g))))
+    c.add-2.ensures.added)
+
+pub add_universal-returns-in-Err-add-clause-added : goal.add_universal-returns-in-Err-add-clause-added
+add_universal-returns-in-Err-add-clause-added t c =
+    (let f : Form = signed_form c.args.part.now c.args.sign in
+    subst (λ m. IsGathered {T = Unit {0}} m c.add.new.walk.clause (Err c.in-Err-add.stop))
+    (ap (λ d. gathered d (literals_chosen f (place_below c.push_universal.new.walk.scopes c.args.next) c.args.place)) c.push_universal.ensures.kept
+    ∙ ap (λ p. gathered c.args.walk.now.clause (literals_chosen f p c.args.place)) (ap (λ bs. place_below bs c.args.next) c.in-Ok.ensures.pushed ∙ place-universal c.args.walk.now.scopes c.args.first c.args.count c.args.next)
+    ∙ ap (gathered c.args.walk.now.clause) (sym (chosen-for_each c.args.first c.args.count f (place_below c.args.walk.now.scopes c.args.next) c.args.place)))
+    c.in-Err-add.ensures.added)
+
+pub add_existential-returns-in-Err-add-clause-added : goal.add_existential-returns-in-Err-add-clause-added
+add_existential-returns-in-Err-add-clause-added t c =
+    (let f : Form = signed_form c.args.part.now c.args.sign in
+    subst (λ m. IsGathered {T = Unit {0}} m c.add.new.walk.clause (Err c.in-Err-add.stop))
+    (ap (λ d. gathered d (literals_chosen f (place_below c.push_existential.new.walk.scopes (c.args.next + c.args.count)) c.args.place)) c.push_existential.ensures.kept
+    ∙ ap (λ p. gathered c.args.walk.now.clause (literals_chosen f p c.args.place)) (ap (λ bs. place_below bs (c.args.next + c.args.count)) (c.in-Ok.ensures.pushed c.args.sign) ∙ place-existential c.args.walk.now.scopes c.args.first c.args.count c.args.next f)
+    ∙ ap (gathered c.args.walk.now.clause) (sym (chosen-for_any c.args.first c.args.count f (place_below c.args.walk.now.scopes c.args.next) c.args.place)))
+    c.in-Err-add.ensures.added)
+
+pub add_in_each-returns-in-Err-clause-added : goal.add_in_each-returns-in-Err-clause-added
+add_in_each-returns-in-Err-clause-added t c =
+    (let f : Form = signed_form c.part-item.result c.args.sign in
+    let all : List Form = forms_of c.args.sign c.args.parts.now in
+    let fs : List Form = forms_of c.args.sign (drop (c.loop-part.part-index + 1) c.args.parts.now) in
+    let next : ℕ = c.loop-part.next in
+    let place : ℕ = c.loop-part.place in
+    let p : Place = place_below c.args.walk.now.scopes next in
+    let can = can_take all c.args.next c.args.place c.args.rest c.requires.can c.requires.exact in
+    let taken = next_taken c.args.sign c.args.parts.now c.loop-part.part-index c.part-item.result next place c.loop-part.rest c.loop-part-test.true c.part-item.is c.loop-part.invariant.can in
+    let rows = ap (λ x. x.clauses) c.count-count.ensures ∙ exact_clauses f taken.few in
+    let d : c.loop-part.rest / c.count-count.result.clauses ≡ product_count fs = ap (λ n. c.loop-part.rest / n) rows ∙ taken.divided in
+    let list = next_made c.args.sign c.args.parts.now c.loop-part.part-index c.part-item.result p place c.loop-part-test.true c.part-item.is in
+    let here' = subst (λ m. IsGathered {T = Unit {0}} m c.add.new.walk.clause (Err c.in-Err.stop)) (λ i. gathered c.loop-part.walk.clause (literals_chosen f (place_below (c.loop-part.invariant.kept i) next) (place / d i))) c.in-Err.ensures.added in
+    let whole = stopped c.loop-part.walk.clause (literals_chosen f p (place / product_count fs)) (chosen_in_each fs (behind f p) (place % product_count fs)) c.add.new.walk.clause c.add.new.walk.clause c.in-Err.stop here' in
+    subst (λ m. IsGathered {T = Unit {0}} m c.add.new.walk.clause (Err c.in-Err.stop))
+    (ap (gathered c.loop-part.walk.clause) (sym list) ∙ c.loop-part.invariant.made
+    ∙ ap (gathered c.args.walk.now.clause) (sym (some_chosen all (place_below c.args.walk.now.scopes c.args.next) c.args.place can.within)))
+    whole)

@@ -3,7 +3,8 @@ use denote.Param.Weighed.{most}
 use Rattle.normal_form.specs.Choices.{chosen_in_one, chosen_in_each}
 use Rattle.normal_form.specs.Gathering.{gathered}
 use Rattle.normal_form.specs.Blocks.{place_below}
-use Rattle.normal_form.proofs.Finding.{CanFind, CanTake, forms_of}
+use Rattle.normal_form.specs.Listing.{forms_of}
+use Rattle.normal_form.proofs.Finding.{CanFind, CanTake}
 use Rattle.formulas.specs.Trees.{tree_size}
 use Rattle.normal_form.proofs.walk.+walk.Given as goal
 

@@ -1,0 +1,36 @@
+use Rattle.std.proofs.Common.{◌≡◌, ℕ, List, ◌++◌, length, map, sym, subst, ◌∙◌}
+use Rattle.std.specs.List.{AllByRecursion}
+use Rattle.spl_terms.specs.InOrder.{IsInOrder}
+use Rattle.spl_symbols.specs.Symbols.{Declared}
+use Rattle.spl_symbols.specs.Skolems.{HasSkolems}
+use Rattle.formulas.specs.Entries.{entry_formula}
+use Rattle.normal_form.specs.NormalForm.{normal_form}
+use Rattle.normal_form.specs.Structures.{StandFor}
+use Rattle.normal_form.specs.ClauseSets.{all_arities}
+use Rattle.normal_form.specs.OfSignature.{AreClausesOf}
+use Rattle.normal_form.proofs.Formed.{all_in_order}
+use Rattle.normal_form.proofs.OfSymbols.{entries_of, has_grown, has_arities}
+use Rattle.normal_form.proofs.problem.clauses_of.Goals as goal
+
+pub returns-clause-ordered : goal.returns-clause-ordered
+returns-clause-ordered c =
+    (let made : c.form_all.new.forming.clauses ≡ normal_form (length c.args.signature) (map entry_formula c.args.entries) =
+    c.in-Ok.ensures.formed.clauses ∙ (λ i. c.new.ensures i ++ normal_form (length c.args.signature) (map entry_formula (c.as_slice.ensures i))) in
+    subst (AllByRecursion IsInOrder) (sym made) (all_in_order (length c.args.signature) (map entry_formula c.args.entries)))
+
+pub returns-clause-stand : goal.returns-clause-stand
+returns-clause-stand c = λ all.
+    (let made : c.form_all.new.forming.clauses ≡ normal_form (length c.args.signature) (map entry_formula c.args.entries) =
+    c.in-Ok.ensures.formed.clauses ∙ (λ i. c.new.ensures i ++ normal_form (length c.args.signature) (map entry_formula (c.as_slice.ensures i))) in
+    subst (λ cs. StandFor (length c.args.signature) cs (map entry_formula c.args.entries)) (sym made) (c.clauses_stand.ensures (length c.args.signature) (map entry_formula c.args.entries) all))
+
+pub returns-clause-of_signature : goal.returns-clause-of_signature
+returns-clause-of_signature c = λ all.
+    (let made : c.form_all.new.forming.clauses ≡ normal_form (length c.args.signature) (map entry_formula c.args.entries) =
+    c.in-Ok.ensures.formed.clauses ∙ (λ i. c.new.ensures i ++ normal_form (length c.args.signature) (map entry_formula (c.as_slice.ensures i))) in
+    let old : List Declared = c.args.signature in
+    let new : List Declared = c.form_all.new.forming.signature in
+    let as' : List ℕ = all_arities (length old) (map entry_formula c.args.entries) in
+    let grown : HasSkolems old 1 as' new c.form_all.new.forming.next_name = subst (λ es. HasSkolems old 1 (all_arities (length old) (map entry_formula es)) new c.form_all.new.forming.next_name) c.as_slice.ensures c.in-Ok.ensures.formed.symbols in
+    subst (AreClausesOf new) (sym made)
+    (entries_of old new (has_grown old 1 as' new c.form_all.new.forming.next_name grown) (length old) c.args.entries all (has_arities old 1 as' new c.form_all.new.forming.next_name grown)))
