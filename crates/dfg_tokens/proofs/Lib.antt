@@ -1,3 +1,4 @@
 pub mod Lengths
 pub mod Skip
 pub mod Texts
+mod Scans

@@ -5,11 +5,13 @@
 //! Syntax 1.5 in the form that `docs/grammar.md` states.
 #![tactic(auto)]
 
+mod cursor;
 mod name;
 mod piece;
 mod token;
 mod word;
 
+pub use cursor::Cursor;
 pub use name::is_name;
 pub use piece::{Mark, Piece, TokenKind, mark_byte};
 pub use token::{Token, tokens_of};
