@@ -17,11 +17,8 @@ use Rattle.case_rounds.specs.declared.round.Finish.{Finish}
 use Rattle.case_rounds.specs.declared.round.Finish.TheVariants as finishes
 use Rattle.case_rounds.specs.Rounds.{IsFinishOf}
 use Rattle.case_rounds.specs.Events.{publication_of, AreLastOf, IsBatchOf}
-use Rattle.case_rounds.specs.Appending.{IsReady}
 use Rattle.case_rounds.specs.InLaws.{in_either, in_one, in_none, in_mapped}
-use Rattle.case_journal.specs.Legal.{IsLegalJournal}
-use Rattle.case_journal.specs.PlaceLaws.{claimed_within}
-use Rattle.case_turns.specs.Turns.{CanNotSplit, IsWaiting}
+use Rattle.case_turns.specs.Turns.{CanNotSplit}
 
 none_is : {A : Type 0} (o : Option A) → o ≡ None → IsSome o → ⊥
 none_is (Some x) e h = absurd (cc)
@@ -51,18 +48,8 @@ not_again t v b h same c =
       | inr last ↦ no_split_last t.setting.limits.splits v h.lines h.finish h.events.last split.node split.lines split.put_off h.ends h.events.finishes last (omega (arith, split.spent, same))
     ]
 
--- ---- it waits for nothing
+-- ---- a clause is given
 
 pub some_given : {A B : Type 0} (given : Option A) (at : Option B) → (given ≡ None → at ≡ None) → IsSome at → IsSome given
 some_given (Some k) at none h = refl
 some_given None at none h = absurd (none_is at (none refl) h)
-
-pub waits_now : (t : State) (w m : ℕ) (v : Case) (b : Batch) → IsLegalJournal t.setting t.past → v.node ≡ m → v.worker ≡ w → Holds t.setting t.past w m → IsReady t.setting t.past v.worker v.node b → IsWaiting t.setting t.past w m b
-waits_now t w m v b legal node worker holds ready = record {
-  start = t.past;
-  later = [];
-  more = refl;
-  none = tt;
-  there = claimed_within t.setting t.past legal w m holds.claims;
-  ready = subst (λ n. IsReady t.setting t.past w n b) node (subst (λ x. IsReady t.setting t.past x v.node b) worker ready);
-}

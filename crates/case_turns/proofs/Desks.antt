@@ -32,7 +32,6 @@ use Rattle.case_view.specs.TrailLaws.{trail_later}
 use Rattle.case_view.specs.Views.{HasClauses, IsRising, is_split_on}
 use Rattle.case_view.specs.Walks.{is_among}
 use Rattle.case_turns.specs.declared.desk.Desk.{Desk}
-use Rattle.case_turns.specs.Turns.{Continues}
 use Rattle.case_turns.specs.Desks.{AreNumbersOf, HasTrail, IsDesk, IsDeskNow, IsRetired}
 
 -- ---- the leaf of a view
@@ -55,14 +54,14 @@ desk_at s past v w m desk e h = record { start = past; later = []; more = refl; 
 pub trail_own : (s : Setting) (past : List Entry) (w : ℕ) (desk : Desk) → HasTrail s past w desk → HasTrail s past desk.view.worker desk
 trail_own s past w desk h = record { worker = refl; trail = h.trail }
 
-pub trail_later_on : (s s' : Setting) (past past' : List Entry) (w : ℕ) (desk : Desk) → s' ≡ s → Continues past past' → HasTrail s past w desk → HasTrail s' past' w desk
-trail_later_on s s' past past' w desk e c h = subst (λ x. HasTrail x past' w desk) (sym e) (record {
+pub trail_later_on : (s s' : Setting) (past past' : List Entry) (w : ℕ) (desk : Desk) (added : List Entry) → s' ≡ s → past' ≡ added ++ past → HasTrail s past w desk → HasTrail s' past' w desk
+trail_later_on s s' past past' w desk added e is h = subst (λ x. HasTrail x past' w desk) (sym e) (record {
   worker = h.worker;
-  trail = subst (λ p. IsTrail s p (reverse desk.marks) desk.view) (sym c.is) (trail_later s c.added past (reverse desk.marks) desk.view h.trail);
+  trail = subst (λ p. IsTrail s p (reverse desk.marks) desk.view) (sym is) (trail_later s added past (reverse desk.marks) desk.view h.trail);
 })
 
 pub trail_of : (s : Setting) (past : List Entry) (w m : ℕ) (desk : Desk) → IsDesk s past w m desk → HasTrail s past w desk
-trail_of s past w m desk d = trail_later_on s s d.start past w desk refl (record { added = d.later; is = d.more }) d.was.trail
+trail_of s past w m desk d = trail_later_on s s d.start past w desk d.later refl d.more d.was.trail
 
 -- ---- what is passive at its leaf
 

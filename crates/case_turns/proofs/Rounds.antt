@@ -28,8 +28,8 @@ grown : (added past : List Entry) → rounds past ≤ rounds (added ++ past)
 grown [] past = omega arith
 grown (e ∷ added) past = omega (arith, grown added past)
 
-pub rounds_grow : (old new : List Entry) → Continues old new → rounds old ≤ rounds new
-rounds_grow old new c = omega (arith, grown c.added old, ap rounds c.is)
+pub rounds_grow : {w : ℕ} (old new : List Entry) → Continues w old new → rounds old ≤ rounds new
+rounds_grow {w = w} old new c = omega (arith, grown c.added old, ap rounds c.is)
 
 -- ---- between two cases
 

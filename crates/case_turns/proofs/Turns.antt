@@ -20,7 +20,7 @@ use Rattle.case_journal.specs.ListLaws.{get_right}
 use Rattle.case_journal.specs.PlaceLaws.{claimed_within}
 use Rattle.backjump.specs.Cases.{OnlyCloses, IsCaseEntry}
 use Rattle.journal_laws.specs.Batches.{publication}
-use Rattle.case_turns.specs.Turns.{Continues, IsFree}
+use Rattle.case_turns.specs.Turns.{IsFree}
 
 pub item_at : {A : Type 0} (items before rest : List A) (x : A) → items ≡ before ++ x ∷ rest → slice_get items (length before) ≡ Some x
 item_at items before rest x e =
@@ -113,17 +113,6 @@ activated_now stays old new w m legal h settled unended e f =
     let p : record { by = w; event = Activate m } ∷ old.past ≡ new.past = sym f in
     subst (λ x. IsFree (record { setting = x; past = new.past; spare_events = new.spare_events; spare_steps = new.spare_steps }) w m) (sym e)
     (subst (λ x. IsFree (record { setting = old.setting; past = x; spare_events = new.spare_events; spare_steps = new.spare_steps }) w m) p a)
-
--- ---- more events
-
-pub continues_one : (old new : List Entry) (e : Entry) → new ≡ e ∷ old → Continues old new
-continues_one old new e is = record { added = e ∷ []; is = is }
-
-pub continues_more : (a b c : List Entry) → Continues a b → Continues b c → Continues a c
-continues_more a b c f g = record { added = g.added ++ f.added; is = g.is ∙ (ap (λ p. g.added ++ p) f.is ∙ sym (append_assoc g.added f.added a)) }
-
-pub closes_more : (old new : List Entry) (w : ℕ) (e : Entry) → OnlyCloses w (e ∷ old) new → Continues old new
-closes_more old new w e c = continues_more old (e ∷ old) new (continues_one old (e ∷ old) e refl) (record { added = c.added; is = c.is })
 
 -- ---- empty clauses
 

@@ -1,3 +1,4 @@
 pub mod Turns
+pub mod TurnLaws
 pub mod Desks
 pub mod Working

@@ -57,9 +57,15 @@ IsLastNow s past w m _ = ⊥
 
 -- ---- what became of it
 
--- the later journal is the earlier one with more events
-pub record Continues (earlier later : List Entry) : Type 0 where
+-- each entry is by the worker
+abbrev pub AreBy : ℕ → List Entry → Type 0
+AreBy w [] = Unit {0}
+AreBy w (e ∷ es) = (e.by ≡ w) × AreBy w es
+
+-- the later journal is the earlier one with more events, all of the worker
+pub record Continues (by : ℕ) (earlier later : List Entry) : Type 0 where
   pub added : List Entry
+  pub each : AreBy by added
   pub is : later ≡ added ++ earlier
 
 -- the worker holds no node, the tree is settled, and nothing has ended the journal, or a contradiction has

@@ -74,7 +74,7 @@ fn publish(
     requires steps_fit { length chain ≤ table.old.spare_steps }
     ensures setting { table.new.setting ≡ table.old.setting }
     ensures gone { IfOk result (IsGone table.old table.new by node chain) }
-    ensures more { OnOk result (Continues table.old.past table.new.past) }
+    ensures more { OnOk result (Continues by table.old.past table.new.past) }
     ensures err { OnErr result (table.new.past ≡ table.old.past) }
 {
     lines_go_on();
@@ -116,7 +116,7 @@ fn append_split(
     requires steps_fit { length steps ≤ table.old.spare_steps }
     ensures setting { table.new.setting ≡ table.old.setting }
     ensures outcome { IsOutcome table.new by node result }
-    ensures more { Continues table.old.past table.new.past }
+    ensures more { Continues by table.old.past table.new.past }
     ensures again { result ≡ Again → table.old.setting.limits.splits ≤ splits table.old.past }
     ensures some { ¬ (result ≡ Dropped) }
 {
@@ -141,7 +141,7 @@ fn append_last(table: &mut Table, by: u32, node: u32, event: Event) -> Appended
     requires steps_fit { length (lines_of event) ≤ table.old.spare_steps }
     ensures setting { table.new.setting ≡ table.old.setting }
     ensures outcome { IsOutcome table.new by node result }
-    ensures more { Continues table.old.past table.new.past }
+    ensures more { Continues by table.old.past table.new.past }
     ensures again { result ≡ Again → HasNoSplitLeft table.old event }
     ensures some { ¬ (result ≡ Dropped) }
 {
@@ -187,7 +187,7 @@ fn append_events(
     requires steps_fit { sum_by (λ ev. length (lines_of ev)) events ≤ table.old.spare_steps }
     ensures setting { table.new.setting ≡ table.old.setting }
     ensures outcome { IfOk result (IsOutcome table.new by node) }
-    ensures more { OnOk result (Continues table.old.past table.new.past) }
+    ensures more { OnOk result (Continues by table.old.past table.new.past) }
     ensures again { IfOk result (λ done. done ≡ Again → CanNotSplit table.old events) }
     ensures some { IfOk result (λ done. ¬ (done ≡ Dropped)) }
     ensures err { OnErr result (first_end table.new.past ≡ None) }
@@ -259,7 +259,7 @@ pub fn append(
     requires waits { IsWaiting table.old.setting table.old.past by node batch }
     ensures setting { table.new.setting ≡ table.old.setting }
     ensures outcome { IfOk result (IsOutcome table.new by node) }
-    ensures more { OnOk result (Continues table.old.past table.new.past) }
+    ensures more { OnOk result (Continues by table.old.past table.new.past) }
     ensures again { IfOk result (λ done. done ≡ Again → CanNotSplit table.old batch.events) }
     ensures dropped { IfOk result (λ done. done ≡ Dropped → table.new ≡ table.old) }
     ensures err { OnErr result (first_end table.old.past ≡ None → first_end table.new.past ≡ None) }

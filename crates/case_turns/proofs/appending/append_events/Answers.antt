@@ -10,7 +10,8 @@ use Rattle.case_journal.specs.Ending.{first_end}
 use Rattle.case_journal.specs.Legal.{IsLegalJournal, IsSettled}
 use Rattle.journal_laws.specs.Batches.{publication}
 use Rattle.case_turns.specs.Turns.{IsNext, IsGone, IsLastNow}
-use Rattle.case_turns.proofs.Turns.{item_at, continues_more, continues_one}
+use Rattle.case_turns.specs.TurnLaws.{continues_more, continues_one}
+use Rattle.case_turns.proofs.Turns.{item_at}
 use Rattle.case_turns.proofs.Sequence.{publishes, finishes_now, one_line, is_next, one_more, not_done}
 use Rattle.case_turns.proofs.appending.append_events.Goals as goal
 

@@ -17,7 +17,7 @@ invariant-loop-event l = record {
   settled : IsSettled l.fn.table.setting l.table.past;
   unended : first_end l.table.past ≡ None;
   splits : splits l.table.past ≡ splits l.fn.table.past;
-  more : Continues l.fn.table.past l.table.past;
+  more : Continues l.by l.fn.table.past l.table.past;
   joined : l.fn.events ≡ l.yielded ++ l.event-iterator.rest.items;
   events_fit : length l.event-iterator.rest.items ≤ l.table.spare_events;
   steps_fit : sum_by (λ (ev : Event). length (lines_of ev)) l.event-iterator.rest.items ≤ l.table.spare_steps;

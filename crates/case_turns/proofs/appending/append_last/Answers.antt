@@ -1,6 +1,7 @@
 use Rattle.case_journal.specs.declared.event.Entry.{Entry}
 use Rattle.case_journal.specs.declared.event.Event.TheVariants.{Activate, Big}
-use Rattle.case_turns.proofs.Turns.{activated_now, continues_one}
+use Rattle.case_turns.specs.TurnLaws.{continues_one}
+use Rattle.case_turns.proofs.Turns.{activated_now}
 use Rattle.case_turns.proofs.appending.append_last.Goals as goal
 
 pub returns-in-Activate-clause-outcome : goal.returns-in-Activate-clause-outcome

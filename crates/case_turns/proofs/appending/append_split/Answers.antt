@@ -2,7 +2,7 @@ use Rattle.std.proofs.Common.{subst}
 use Rattle.std.specs.Prelude.{MatchBool}
 use Rattle.case_journal.specs.declared.event.Event.TheVariants.{Split, Full}
 use Rattle.clause_splitting.specs.Splitting.{IsSplitBy, IsFullBy}
-use Rattle.case_turns.proofs.Turns.{continues_one}
+use Rattle.case_turns.specs.TurnLaws.{continues_one}
 use Rattle.case_journal.specs.LeafLaws.{claimer_within}
 use Rattle.case_turns.proofs.appending.append_split.Goals as goal
 

@@ -6,7 +6,8 @@ use Rattle.case_journal.specs.Facts.{Holds}
 use Rattle.case_journal.specs.Legal.{IsLegal}
 use Rattle.case_journal.specs.PlaceLaws.{claimed_within}
 use Rattle.backjump.specs.Cases.{OnlyCloses}
-use Rattle.case_turns.proofs.Turns.{closed_idle, closes_more, continues_one}
+use Rattle.case_turns.specs.TurnLaws.{closes_more, continues_one}
+use Rattle.case_turns.proofs.Turns.{closed_idle}
 use Rattle.case_turns.proofs.Publishing.{last_empty, first_empty, chain_line, is_published}
 use Rattle.case_turns.proofs.appending.publish.Goals as goal
 
@@ -75,7 +76,7 @@ returns-then-counted-limits-clause-more c =
 pub returns-then-ends_empty-clause-more : goal.returns-then-ends_empty-clause-more
 returns-then-ends_empty-clause-more c =
     let a = c.args in
-    closes_more a.table.now.past c.close.new.table.past a.by (record { by = a.by; event = Publish a.at a.chain false }) c.in_ok-close.ensures.closes
+    closes_more a.table.now.past c.close.new.table.past (record { by = a.by; event = Publish a.at a.chain false }) c.in_ok-close.ensures.closes
 
 pub returns-clause-more : goal.returns-clause-more
 returns-clause-more c =

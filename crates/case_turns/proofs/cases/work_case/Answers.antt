@@ -12,7 +12,7 @@ move_to-requires-clause-trail c =
     let t = c.args.table.now in
     let n = c.claim.new.table in
     let desk = c.args.desk.now in
-    trail_own n.setting n.past 1 desk (trail_later_on t.setting n.setting t.past n.past 1 desk c.claim.ensures.setting (record { added = record { by = 1; event = Claim c.in_ok-node.node } ∷ []; is = c.in_ok-node.ensures.past }) c.requires.trail)
+    trail_own n.setting n.past 1 desk (trail_later_on t.setting n.setting t.past n.past 1 desk (record { by = 1; event = Claim c.in_ok-node.node } ∷ []) c.claim.ensures.setting c.in_ok-node.ensures.past c.requires.trail)
 
 pub move_to-requires-clause-holds : goal.move_to-requires-clause-holds
 move_to-requires-clause-holds c =

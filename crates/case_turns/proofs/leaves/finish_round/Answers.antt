@@ -4,7 +4,8 @@ use Rattle.case_journal.specs.Facts.{chosen, IsDead}
 use Rattle.case_journal.specs.Ending.{reason}
 use Rattle.case_rounds.specs.Events.{IsBatchOf}
 use Rattle.case_turns.specs.Turns.{IsOutcome}
-use Rattle.case_turns.proofs.Computed.{waits_now, some_given, not_again, not_dropped}
+use Rattle.case_turns.specs.TurnLaws.{waits_now}
+use Rattle.case_turns.proofs.Computed.{some_given, not_again, not_dropped}
 use Rattle.case_turns.proofs.Desks.{desk_caught, trail_later_on}
 use Rattle.case_turns.proofs.Rounds.{rounds_grow}
 use Rattle.case_turns.proofs.leaves.finish_round.Goals as goal
@@ -35,7 +36,7 @@ returns-in-Activated-clause-trail c =
     let n = c.append.new.table in
     let d = c.catch_up.new.self in
     let now = desk_caught t.setting t.past 1 c.args.node c.args.desk.now d c.requires.desk c.in_ok-catch_up.ensures in
-    trail_later_on t.setting n.setting t.past n.past 1 d c.append.ensures.setting c.in_ok-append.ensures.more now.trail
+    trail_later_on t.setting n.setting t.past n.past 1 d c.in_ok-append.ensures.more.added c.append.ensures.setting c.in_ok-append.ensures.more.is now.trail
 
 pub returns-in-Left-clause-trail : goal.returns-in-Left-clause-trail
 returns-in-Left-clause-trail c =
@@ -43,7 +44,7 @@ returns-in-Left-clause-trail c =
     let n = c.append.new.table in
     let d = c.catch_up.new.self in
     let now = desk_caught t.setting t.past 1 c.args.node c.args.desk.now d c.requires.desk c.in_ok-catch_up.ensures in
-    trail_later_on t.setting n.setting t.past n.past 1 d c.append.ensures.setting c.in_ok-append.ensures.more now.trail
+    trail_later_on t.setting n.setting t.past n.past 1 d c.in_ok-append.ensures.more.added c.append.ensures.setting c.in_ok-append.ensures.more.is now.trail
 
 pub returns-in-Ended-clause-trail : goal.returns-in-Ended-clause-trail
 returns-in-Ended-clause-trail c =
@@ -51,7 +52,7 @@ returns-in-Ended-clause-trail c =
     let n = c.append.new.table in
     let d = c.catch_up.new.self in
     let now = desk_caught t.setting t.past 1 c.args.node c.args.desk.now d c.requires.desk c.in_ok-catch_up.ensures in
-    trail_later_on t.setting n.setting t.past n.past 1 d c.append.ensures.setting c.in_ok-append.ensures.more now.trail
+    trail_later_on t.setting n.setting t.past n.past 1 d c.in_ok-append.ensures.more.added c.append.ensures.setting c.in_ok-append.ensures.more.is now.trail
 
 pub unreachable-requires : goal.unreachable-requires
 unreachable-requires c =

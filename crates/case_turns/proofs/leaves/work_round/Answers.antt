@@ -48,7 +48,7 @@ returns-in_default-clause-trail c =
     let n = c.apply.new.self in
     let d = c.catch_up.new.self in
     let now = desk_caught r.setting r.past 1 m c.args.desk.now d (desk_moved t.setting r.setting t.past r.past 1 m c.args.desk.now e.setting e.past c.requires.desk) c.in_ok-catch_up.ensures in
-    trail_later_on r.setting n.setting r.past n.past 1 (record { view = d.view; marks = d.marks; queue = c.pick.new.self }) c.apply.ensures.setting (record { added = _ ∷ []; is = c.apply.ensures.past }) (record { worker = now.trail.worker; trail = now.trail.trail })
+    trail_later_on r.setting n.setting r.past n.past 1 (record { view = d.view; marks = d.marks; queue = c.pick.new.self }) (_ ∷ []) c.apply.ensures.setting c.apply.ensures.past (record { worker = now.trail.worker; trail = now.trail.trail })
 
 pub returns-then-rounds-limits-clause-trail : goal.returns-then-rounds-limits-clause-trail
 returns-then-rounds-limits-clause-trail c =
@@ -59,4 +59,4 @@ returns-then-rounds-limits-clause-trail c =
     let n = c.apply-then-rounds-limits.new.self in
     let d = c.catch_up.new.self in
     let now = desk_caught r.setting r.past 1 m c.args.desk.now d (desk_moved t.setting r.setting t.past r.past 1 m c.args.desk.now e.setting e.past c.requires.desk) c.in_ok-catch_up.ensures in
-    trail_later_on r.setting n.setting r.past n.past 1 (record { view = d.view; marks = d.marks; queue = c.pick.new.self }) c.apply-then-rounds-limits.ensures.setting (record { added = _ ∷ []; is = c.apply-then-rounds-limits.ensures.past }) (record { worker = now.trail.worker; trail = now.trail.trail })
+    trail_later_on r.setting n.setting r.past n.past 1 (record { view = d.view; marks = d.marks; queue = c.pick.new.self }) (_ ∷ []) c.apply-then-rounds-limits.ensures.setting c.apply-then-rounds-limits.ensures.past (record { worker = now.trail.worker; trail = now.trail.trail })
