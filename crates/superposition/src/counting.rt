@@ -63,7 +63,8 @@ fn symbols_in_up_to<'a>(
     limit: u64,
 ) -> u64
     requires { IsTriangular bindings.now.0 bindings.now.1 }
-    ensures { result ≤ min (sum_by (λ t. term_symbols (replace (entry (entries_from from past bindings.now.1)) t)) terms.now) limit }
+    ensures { result ≤ min
+        (sum_by (λ t. term_symbols (replace (entry (entries_from from past bindings.now.1)) t)) terms.now) limit }
 {
     let mut count: u64 = 0;
     for term in terms {
@@ -81,7 +82,8 @@ fn symbols_in_up_to<'a>(
 #[tactic(auto, using(crate::proofs::Counted::size_laws))]
 fn is_vast<'a>(bindings: &Bindings<'a>, from: u32, past: u32, atom: &Atom) -> bool
     requires { IsTriangular bindings.now.0 bindings.now.1 }
-    ensures { OnTrue result (1000000 ≤ atom_symbols (replace_in_atom (entry (entries_from from past bindings.now.1)) atom.now)) }
+    ensures { OnTrue result (1000000
+        ≤ atom_symbols (replace_in_atom (entry (entries_from from past bindings.now.1)) atom.now)) }
 {
     let limit = 999_999;
     match atom {
@@ -98,7 +100,8 @@ fn is_vast<'a>(bindings: &Bindings<'a>, from: u32, past: u32, atom: &Atom) -> bo
 /// Whether the instance of one of the atoms has 1,000,000 symbols or more.
 fn has_vast_atom<'a>(bindings: &Bindings<'a>, from: u32, past: u32, atoms: &[Atom]) -> bool
     requires { IsTriangular bindings.now.0 bindings.now.1 }
-    ensures { OnTrue result (HasVastAtom (map (replace_in_atom (entry (entries_from from past bindings.now.1))) atoms.now)) }
+    ensures { OnTrue result (HasVastAtom
+        (map (replace_in_atom (entry (entries_from from past bindings.now.1))) atoms.now)) }
 {
     for atom in atoms {
         if is_vast(bindings, from, past, atom) {
@@ -119,7 +122,8 @@ fn is_part_vast<'a>(
     requires triangular { IsTriangular bindings.now.0 bindings.now.1 }
     requires place { clause.2 < length (part_of clause.0.now clause.1) }
     ensures { OnTrue result (HasVastAtom (part_of
-        (apply (entries_from from past bindings.now.1) (without clause.entry.1 clause.entry.2 clause.entry.0.now)) of)) }
+        (apply (entries_from from past bindings.now.1)
+        (without clause.entry.1 clause.entry.2 clause.entry.0.now)) of)) }
 {
     let (whole, part, place) = clause;
     let (before, behind) = left_of(whole, of, part, place as usize);
