@@ -10,3 +10,6 @@ pub mod Walked
 pub mod Skipped
 pub mod Instances
 pub mod Counted
+pub mod Sized
+pub mod Refused
+pub mod OwnLines

@@ -1,13 +1,17 @@
 -- What a rule concludes, as the line that is appended.
-use Rattle.std.proofs.Common.{◌≡◌, ℕ, List, [], ◌∷◌, Option, Some, None, option_map, refl, ap, ◌∙◌}
+use Rattle.std.proofs.Common.{◌≡◌, ℕ, Bool, true, false, List, [], ◌∷◌, Option, Some, None, option_map, option_and_then, refl, ap, ◌∙◌}
+use Rattle.spl_terms.specs.declared.term.Term.{Term}
+use Rattle.spl_terms.specs.declared.atom.Atom.{Atom}
+use Rattle.spl_terms.specs.declared.atom.Atom.TheVariants.{Holds, Equal}
 use Rattle.spl_terms.specs.declared.clause.Clause.{Clause}
-use Rattle.spl_terms.specs.Clauses.{in_order}
+use Rattle.spl_terms.specs.Terms.{replace}
+use Rattle.spl_terms.specs.Clauses.{in_order, replace_in_atom}
 use Rattle.dep_sets.specs.declared.deps.Assumption.{Assumption}
 use Rattle.dep_sets.specs.Assumptions.{united}
 use Rattle.proof_steps.specs.declared.step.Statement.{Statement}
 use Rattle.proof_steps.specs.declared.step.Rule.{Rule}
 use Rattle.proof_steps.specs.declared.step.Line.{Line}
-use Rattle.proof_steps.specs.Steps.{states}
+use Rattle.proof_steps.specs.Steps.{sides_of, states}
 use Rattle.calculus.specs.declared.kept.Kept.{Kept}
 use Rattle.superposition.specs.Words.{line_of, line_of_both}
 
@@ -36,3 +40,14 @@ own_line p rule = line_again rule (p.number ∷ []) p.statement.deps
 -- the same of two premises
 pub both_line : (p q : Kept) (rule : Rule) (made o : Option Clause) → option_map in_order made ≡ o → option_map (line_of_both p q rule) made ≡ option_map (stated_line rule (p.number ∷ q.number ∷ [])) (option_map (λ c. states c (united p.statement.deps q.statement.deps)) o)
 both_line p q rule = line_again rule (p.number ∷ q.number ∷ []) (united p.statement.deps q.statement.deps)
+
+-- what stands in a list before it is looked at
+pub there_of : {A B : Type 0} (f : A → Option B) (o : Option A) (y : B) → option_and_then f o ≡ Some y → (x : A) × (o ≡ Some x) × (f x ≡ Some y)
+there_of f None y h = absurd (cc)
+there_of f (Some x) y h = (x, refl, h)
+
+-- the sides of an instance are the instances of the sides
+pub sides_replaced : (h : ℕ → Term) (right : Bool) (a : Atom) → sides_of right (replace_in_atom h a) ≡ option_map (λ both. (replace h both.0, replace h both.1)) (sides_of right a)
+sides_replaced h right (Holds f ts) = refl
+sides_replaced h false (Equal x y) = refl
+sides_replaced h true (Equal x y) = refl

@@ -40,10 +40,10 @@ use Rattle.superposition.specs.Appending.{IsPrefixAppended, Appended}
 use Rattle.superposition.specs.AppendingLaws.{then_more, then_none}
 use Rattle.superposition.specs.Words.{plain, IsAtomBelow, line_of_both}
 use Rattle.superposition.specs.Pairs.{IsPair, raised}
-use Rattle.superposition.specs.Readings.{reading_of, AreJudged}
+use Rattle.superposition.specs.Readings.{reading_of, AreJudged, AreReadIn}
 use Rattle.superposition.specs.Standings.{IsStanding}
 use Rattle.superposition.specs.Walks.{AreUsable, IsReady, IsUpperAt, IsSide, raised_atom, superpose_in, superpose_lent, superpose_in_parts, rewrite, rewrite_below, rewrite_argument}
-use Rattle.superposition.proofs.Stating.{stated_line, both_line}
+use Rattle.superposition.proofs.Stating.{stated_line, both_line, there_of, sides_replaced}
 use Rattle.superposition.proofs.Resolving.{first_below, second_below, eligible_there, apply-without}
 use Rattle.superposition.proofs.Alone.{left_below, right_below}
 use Rattle.superposition.proofs.Instances.{leads_under}
@@ -77,16 +77,6 @@ module _ (r : Rewriting) (ready : IsReady r) (path : List ℕ) where
 
   pub no_superposed_line : rewriting_unifier r.pair.both e (raised_atom r) path ≡ None → [] ≡ rewrite r path
   no_superposed_line none = sym (whole None none)
-
-  -- what stands in a list before it is looked at
-  there_of : {A B : Type 0} (f : A → Option B) (o : Option A) (y : B) → option_and_then f o ≡ Some y → (x : A) × (o ≡ Some x) × (f x ≡ Some y)
-  there_of f None y h = absurd (cc)
-  there_of f (Some x) y h = (x, refl, h)
-
-  sides_replaced : (h : ℕ → Term) (right : Bool) (a : Atom) → sides_of right (replace_in_atom h a) ≡ option_map (λ both. (replace h both.0, replace h both.1)) (sides_of right a)
-  sides_replaced h right (Holds f ts) = refl
-  sides_replaced h false (Equal x y) = refl
-  sides_replaced h true (Equal x y) = refl
 
   -- the unifier that keeps the order is that of the left side and the term that stands there
   unifier_there : (vars : ℕ) (w : Term) (u : List Term) → term_under path (raised_atom r) ≡ Some w → rewriting_unifier vars e (raised_atom r) path ≡ Some u → unifier vars e.left_side w ≡ Some u
@@ -297,6 +287,14 @@ readings_stand : (p : Kept) (xs : List (ℕ × Atom)) → AllByRecursion (λ x. 
 readings_stand p [] h = tt
 readings_stand p ((i, Holds f ts) ∷ xs) h = readings_stand p xs h.1
 readings_stand p ((i, Equal s t) ∷ xs) h = (ap (option_and_then (sides_of false)) h.0, (ap (option_and_then (sides_of true)) h.0, readings_stand p xs h.1))
+
+-- the same of equations that are lent
+pub read_in : (p : Kept) (xs : List (ℕ × Atom)) (made held : List Equation) → AllByRecursion (λ x. atom_at Succedent x.0 (clause_of p) ≡ Some x.1) xs → map reading_of made ≡ flat_map readings xs → held ≡ made → AreReadIn (clause_of p) held
+read_in p xs made held there is same = lend held (subst (AllByRecursion (Stands p)) (sym (ap (map reading_of) same ∙ is)) (readings_stand p xs there))
+  where
+    lend : (equations : List Equation) → AllByRecursion (Stands p) (map reading_of equations) → AreReadIn (clause_of p) equations
+    lend [] h = tt
+    lend (e ∷ equations) h = (h.0, lend equations h.1)
 
 first_of : {x y s t : Term} → ◌≡◌ {A = Option (Term × Term)} (Some (x, y)) (Some (s, t)) → x ≡ s
 first_of {x} h = ap (λ (o : Option (Term × Term)). unwrap_or (option_map (λ p. p.0) o) x) h

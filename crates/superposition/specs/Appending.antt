@@ -7,8 +7,8 @@ use Rattle.superposition.specs.declared.error.InferError.{InferError}
 use Rattle.superposition.specs.declared.error.InferError.TheVariants.{Big, Memory}
 
 -- the conclusion has at most 4,096 symbols
-abbrev pub Fits : Line → Type 0
-Fits l = clause_symbols l.stated.clause ≤ 4096
+abbrev pub CanBeAppended : Line → Type 0
+CanBeAppended l = clause_symbols l.stated.clause ≤ 4096
 
 -- the conclusion has more than 4,096 symbols, namely so many, or 1,000,000 where there are more
 abbrev pub IsBig : ℕ → Line → Type 0
@@ -26,10 +26,10 @@ pub record IsPrefixAppended (list old new : List Line) (e : InferError) : Type 0
   pub left : List Line
   pub parts : list ≡ done ++ left
   pub appended : new ≡ old ++ done
-  pub fit : AllByRecursion Fits done
+  pub fit : AllByRecursion CanBeAppended done
   pub stopped : StopsBefore e left
 
 -- the whole list was appended, each of whose lines fits, or a prefix of it
 abbrev pub Appended : {T : Type 0} → List Line → List Line → List Line → Result T InferError → Type 0
-Appended list old new (Ok t) = (new ≡ old ++ list) × AllByRecursion Fits list
+Appended list old new (Ok t) = (new ≡ old ++ list) × AllByRecursion CanBeAppended list
 Appended list old new (Err e) = IsPrefixAppended list old new e

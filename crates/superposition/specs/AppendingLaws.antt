@@ -5,7 +5,7 @@ use Rattle.std.specs.List.{AllByRecursion}
 use Rattle.proof_steps.specs.declared.step.Line.{Line}
 use Rattle.superposition.specs.declared.error.InferError.{InferError}
 use Rattle.superposition.specs.declared.error.InferError.TheVariants.{Big, Memory}
-use Rattle.superposition.specs.Appending.{Fits, StopsBefore, IsPrefixAppended, Appended}
+use Rattle.superposition.specs.Appending.{CanBeAppended, StopsBefore, IsPrefixAppended, Appended}
 
 pub each_append : {X : Type 0} (P : X → Type 0) (xs ys : List X) → AllByRecursion P xs → AllByRecursion P ys → AllByRecursion P (xs ++ ys)
 each_append P [] ys h k = k
@@ -21,13 +21,13 @@ stops_sooner Memory left more h = tt
 
 -- the whole of one list, and then what comes of another
 pub then_more : {S T : Type 0} (xs ys old mid new : List Line) (s : S) (r : Result T InferError) → Appended xs old mid (Ok s) → Appended ys mid new r → Appended (xs ++ ys) old new r
-then_more xs ys old mid new s (Ok t) h k = (k.0 ∙ ap (λ l. l ++ ys) h.0 ∙ append_assoc old xs ys, each_append Fits xs ys h.1 k.1)
+then_more xs ys old mid new s (Ok t) h k = (k.0 ∙ ap (λ l. l ++ ys) h.0 ∙ append_assoc old xs ys, each_append CanBeAppended xs ys h.1 k.1)
 then_more xs ys old mid new s (Err e) h k = record {
   done = xs ++ k.done;
   left = k.left;
   parts = ap (λ l. xs ++ l) k.parts ∙ sym (append_assoc xs k.done k.left);
   appended = k.appended ∙ ap (λ l. l ++ k.done) h.0 ∙ append_assoc old xs k.done;
-  fit = each_append Fits xs k.done h.1 k.fit;
+  fit = each_append CanBeAppended xs k.done h.1 k.fit;
   stopped = k.stopped;
 }
 

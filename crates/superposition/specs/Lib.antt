@@ -6,4 +6,4 @@ pub mod Readings
 pub mod Pairs
 pub mod Premises
 pub mod Walks
-pub mod Vast
+pub mod Sizes

@@ -8,7 +8,7 @@ use Rattle.superposition.specs.Words.{plain}
 use Rattle.superposition.specs.Readings.{reading_of, AreJudged}
 
 -- the clause is in order, and the number of variables, the eligible atoms and the equations are those of the premise
-pub record IsFound (x : Premise) : Type 0 where
+pub record IsPrepared (x : Premise) : Type 0 where
   pub in_order : IsInOrder (clause_of x.kept.now)
   pub variables : x.variables ≡ variables (clause_of x.kept.now)
   pub antecedent : plain x.antecedent.items ≡ eligible_in x.kept.now Antecedent

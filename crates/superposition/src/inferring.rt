@@ -4,7 +4,7 @@ ghost use Rattle.spl_terms.specs.Clauses.{clause_symbols};
 ghost use Rattle.spl_terms.specs.InOrder.{IsInOrder};
 ghost use Rattle.calculus.specs.Inferences.{clause_of, from_to, pair_inferences, own_inferences};
 ghost use Rattle.superposition.specs.Appending.{Appended};
-ghost use Rattle.superposition.specs.Premises.{IsFound};
+ghost use Rattle.superposition.specs.Premises.{IsPrepared};
 
 use crate::error::InferError;
 use crate::own::{factor_equations_of, factor_premise, reflect_premise};
@@ -22,8 +22,8 @@ fn from_to<'a>(
     q: &Premise<'a>,
     out: &mut Vec<Line>,
 ) -> Result<(), InferError>
-    requires p_found { IsFound p.now }
-    requires q_found { IsFound q.now }
+    requires p_found { IsPrepared p.now }
+    requires q_found { IsPrepared q.now }
     ensures { Appended (from_to p.now.kept.now q.now.kept.now) out.old.items out.new.items result }
 {
     if let Err(error) = resolve_premises(alloc, p, q, out) {
@@ -39,8 +39,8 @@ fn infer_from_both<'a>(
     q: &Premise<'a>,
     out: &mut Vec<Line>,
 ) -> Result<(), InferError>
-    requires p_found { IsFound p.now }
-    requires q_found { IsFound q.now }
+    requires p_found { IsPrepared p.now }
+    requires q_found { IsPrepared q.now }
     ensures { Appended (pair_inferences p.now.kept.now q.now.kept.now) out.old.items out.new.items result }
 {
     if let Err(error) = from_to(alloc, p, q, out) {
@@ -51,7 +51,7 @@ fn infer_from_both<'a>(
 
 /// Appends the inferences of a premise with a copy of itself, and then those of the premise alone.
 fn infer_from_one(alloc: Global, p: &Premise, out: &mut Vec<Line>) -> Result<(), InferError>
-    requires { IsFound p.now }
+    requires { IsPrepared p.now }
     ensures { Appended (own_inferences p.now.kept.now) out.old.items out.new.items result }
 {
     if let Err(error) = from_to(alloc, p, p, out) {

@@ -16,10 +16,13 @@ mod pairs;
 mod placing;
 mod premises;
 mod raising;
+mod refusing;
 mod resolution;
 mod rewriting;
+mod sizing;
 mod unifiers;
 mod upper;
+mod viewing;
 
 pub use calculus::Kept;
 pub use error::InferError;

@@ -1,27 +1,33 @@
 //! The inferences of one clause alone: factoring, equality resolution, equality factoring.
-ghost use Rattle.std.specs.Prelude.{◌≡◌, ◌≤◌, true, option_map, IfOk};
+ghost use Rattle.std.specs.Prelude.{◌≡◌, ◌≤◌, ◌<◌, true, length, option_map, Some, IfOk, IfErr};
 ghost use Rattle.std.specs.List.{flat_map};
 ghost use Rattle.spl_terms.specs.Clauses.{clause_symbols, in_order};
 ghost use Rattle.spl_terms.specs.InOrder.{IsInOrder, variables};
 ghost use Rattle.spl_truth.specs.Unifiers.{HasVariablesBelow};
+ghost use Rattle.spl_terms.specs.declared.clause.Part.TheVariants.{Antecedent};
+ghost use Rattle.spl_truth.specs.Truth.{apply};
+ghost use Rattle.proof_steps.specs.Spots.{atom_at};
 ghost use Rattle.proof_steps.specs.Steps.{has_entries, reflection, equality_factoring};
 ghost use Rattle.proof_steps.specs.declared.step.Rule.TheVariants.{Reflex};
 ghost use Rattle.calculus.specs.Inferences.{clause_of, by_unifier, sides_unifier, factoring_unifier};
 ghost use Rattle.calculus.specs.Inferences.{factorings, reflections, equality_factorings};
 ghost use Rattle.superposition.specs.Appending.{Appended};
-ghost use Rattle.superposition.specs.Words.{IsAtomBelow, AreLentBelow};
-ghost use Rattle.superposition.specs.Readings.{reading_of, AreLeftSidesBelow, AreJudged, factor_with, factor_apart};
+ghost use Rattle.superposition.specs.Words.{IsAtomBelow, AreLentBelow, AreInPlace};
+ghost use Rattle.superposition.specs.Readings.{reading_of, factor_with, factor_apart};
+ghost use Rattle.superposition.specs.Readings.{AreLeftSidesBelow, AreJudged, IsReadIn, AreReadIn};
+ghost use Rattle.superposition.specs.Sizes.{RefusesBy, compared};
 ghost use Rattle.superposition.specs.Standings.{IsStanding};
-ghost use Rattle.superposition.specs.Premises.{IsFound};
+ghost use Rattle.superposition.specs.Premises.{IsPrepared};
 
 use crate::appending::append_from;
 use crate::equations::{Equation, readings_of};
 use crate::error::InferError;
 use crate::ordering::Standing;
 use crate::premises::{Premise, atoms_in};
+use crate::refusing::refuse_compared;
 use crate::unifiers::{unifier_of_atoms, unifier_of_sides, written};
 use crate::upper::is_left_upper;
-use calculus::Kept;
+use calculus::{Kept, no_unifier_is_lost};
 use proof_steps::{Line, Rule, equality_factored, reflexed};
 use spl_terms::{Atom, Clause, Part};
 use spl_truth::{Subst, instance};
@@ -51,7 +57,11 @@ fn factor(
     if i == j {
         return Ok(());
     }
-    let Some(s) = unifier_of_atoms(alloc, a, b, vars)? else {
+    let found = match unifier_of_atoms(alloc, &p.statement.clause, a, b, vars) {
+        Ok(found) => found,
+        Err(error) => return Err(error),
+    };
+    let Some(s) = found else {
         return Ok(());
     };
     let made = instance(alloc, &s, &p.statement.clause)?;
@@ -112,7 +122,7 @@ pub(crate) fn factor_premise(
     p: &Premise,
     out: &mut Vec<Line>,
 ) -> Result<(), InferError>
-    requires { IsFound p.now }
+    requires { IsPrepared p.now }
     ensures { Appended (factorings p.now.kept.now) out.old.items out.new.items result }
 {
     let atoms = atoms_in(alloc, &p.kept.statement.clause, Part::Succedent)?;
@@ -153,14 +163,21 @@ fn reflect(
     place: (u32, &Atom),
     out: &mut Vec<Line>,
 ) -> Result<(), InferError>
+    requires in_order { IsInOrder (clause_of p.now) }
     requires vars { vars ≡ variables (clause_of p.now) }
+    requires there { atom_at Antecedent place.0 (clause_of p.now) ≡ Some place.1.now }
     requires below { IsAtomBelow vars place.1.now }
     ensures { Appended
         (by_unifier p.now (Reflex place.entry.0) (sides_unifier (variables (clause_of p.now)) place.entry.1.now))
         out.old.items out.new.items result }
 {
+    no_unifier_is_lost();
     let (j, atom) = place;
-    let Some(s) = unifier_of_sides(alloc, atom, vars)? else {
+    let found = match unifier_of_sides(alloc, &p.statement.clause, j, atom, vars) {
+        Ok(found) => found,
+        Err(error) => return Err(error),
+    };
+    let Some(s) = found else {
         return Ok(());
     };
     let made = reflected(alloc, &p.statement.clause, j, &s)?;
@@ -175,7 +192,9 @@ fn reflect_all(
     places: &[(u32, &Atom)],
     out: &mut Vec<Line>,
 ) -> Result<(), InferError>
+    requires in_order { IsInOrder (clause_of p.now) }
     requires vars { vars ≡ variables (clause_of p.now) }
+    requires there { AreInPlace (clause_of p.now) Antecedent places.now }
     requires below { AreLentBelow vars places.now }
     ensures { Appended
         (flat_map (λ x. by_unifier p.now (Reflex x.0) (sides_unifier (variables (clause_of p.now)) x.1.now)) places.now)
@@ -195,7 +214,7 @@ pub(crate) fn reflect_premise(
     p: &Premise,
     out: &mut Vec<Line>,
 ) -> Result<(), InferError>
-    requires { IsFound p.now }
+    requires { IsPrepared p.now }
     ensures { Appended (reflections p.now.kept.now) out.old.items out.new.items result }
 {
     reflect_all(alloc, p.kept, p.variables, p.antecedent.as_slice(), out)
@@ -235,18 +254,22 @@ fn factored(
 }
 
 /// The unifier of the left sides of two equations, where they have one by which the left side of the first one isn't
-/// below its right side.
+/// below its right side. Nothing is written out where the conclusion would have more than 4,096 symbols.
 fn unifier_in_order(
     alloc: Global,
+    p: &Clause,
     vars: u32,
     e: Equation,
     d: Equation,
-) -> Result<Option<Subst>, AllocError>
+) -> Result<Option<Subst>, InferError>
     requires e_below { HasVariablesBelow vars e.left_side.now }
     requires d_below { HasVariablesBelow vars d.left_side.now }
     requires judged { IsStanding e.standing e.left_side.now e.right_side.now }
-    ensures { IfOk result (λ found. option_map (λ s. s.terms) found ≡
+    requires place { e.place < length p.now.succedent }
+    ensures ok { IfOk result (λ found. option_map (λ s. s.terms) found ≡
         factoring_unifier vars (reading_of e.entry) (reading_of d.entry)) }
+    ensures err { IfErr result (RefusesBy (factoring_unifier vars (reading_of e.entry) (reading_of d.entry))
+        (λ u. apply u (compared p.now e.entry.place e.entry.right_side.now d.entry.right_side.now))) }
 {
     let Some(bindings) = unify_bound(alloc, e.left_side, d.left_side, vars)? else {
         return Ok(None);
@@ -254,6 +277,10 @@ fn unifier_in_order(
     let high = is_left_upper(alloc, &bindings, e)?;
     if !high {
         return Ok(None);
+    }
+    let sides = (e.right_side, d.right_side);
+    if let Err(error) = refuse_compared(alloc, &bindings, vars, p, e.place, sides) {
+        return Err(error);
     }
     let s = written(alloc, &bindings, vars)?;
     Ok(Some(s))
@@ -269,18 +296,26 @@ fn factor_equation(
     d: Equation,
     out: &mut Vec<Line>,
 ) -> Result<(), InferError>
+    requires in_order { IsInOrder (clause_of p.now) }
     requires vars { vars ≡ variables (clause_of p.now) }
     requires e_below { HasVariablesBelow vars e.left_side.now }
     requires d_below { HasVariablesBelow vars d.left_side.now }
     requires judged { IsStanding e.standing e.left_side.now e.right_side.now }
+    requires e_there { IsReadIn (clause_of p.now) e }
+    requires d_there { IsReadIn (clause_of p.now) d }
     ensures { Appended
         (factor_apart p.now (reading_of e.entry) (reading_of d.entry))
         out.old.items out.new.items result }
 {
+    no_unifier_is_lost();
     if e.place == d.place {
         return Ok(());
     }
-    let Some(s) = unifier_in_order(alloc, vars, e, d)? else {
+    let found = match unifier_in_order(alloc, &p.statement.clause, vars, e, d) {
+        Ok(found) => found,
+        Err(error) => return Err(error),
+    };
+    let Some(s) = found else {
         return Ok(());
     };
     let made = factored(alloc, &p.statement.clause, e, d, &s)?;
@@ -303,10 +338,13 @@ fn factor_equation_with_each(
     others: &[Equation],
     out: &mut Vec<Line>,
 ) -> Result<(), InferError>
+    requires in_order { IsInOrder (clause_of p.now) }
     requires vars { vars ≡ variables (clause_of p.now) }
     requires e_below { HasVariablesBelow vars e.left_side.now }
     requires others_below { AreLeftSidesBelow vars others.now }
     requires judged { IsStanding e.standing e.left_side.now e.right_side.now }
+    requires e_there { IsReadIn (clause_of p.now) e }
+    requires others_there { AreReadIn (clause_of p.now) others.now }
     ensures { Appended
         (flat_map (λ d. factor_apart p.now (reading_of e.entry) (reading_of d)) others.now)
         out.old.items out.new.items result }
@@ -331,10 +369,13 @@ fn factor_equations(
     others: &[Equation],
     out: &mut Vec<Line>,
 ) -> Result<(), InferError>
+    requires in_order { IsInOrder (clause_of p.now) }
     requires vars { vars ≡ variables (clause_of p.now) }
     requires equations_below { AreLeftSidesBelow vars equations.now }
     requires others_below { AreLeftSidesBelow vars others.now }
     requires judged { AreJudged equations.now }
+    requires equations_there { AreReadIn (clause_of p.now) equations.now }
+    requires others_there { AreReadIn (clause_of p.now) others.now }
     ensures { Appended
         (flat_map (λ e. flat_map (λ d. factor_apart p.now (reading_of e) (reading_of d)) others.now) equations.now)
         out.old.items out.new.items result }
@@ -353,7 +394,7 @@ pub(crate) fn factor_equations_of(
     p: &Premise,
     out: &mut Vec<Line>,
 ) -> Result<(), InferError>
-    requires { IsFound p.now }
+    requires { IsPrepared p.now }
     ensures { Appended (equality_factorings p.now.kept.now) out.old.items out.new.items result }
 {
     let equations = p.equations.as_slice();

@@ -72,7 +72,7 @@ fn terms_with(
 }
 
 /// The instance of the atom with another term at the end of the path, which leads to a subterm.
-fn atom_with(
+pub(crate) fn atom_with(
     alloc: Global,
     entries: &[Term],
     path: &[u32],

@@ -6,7 +6,7 @@ ghost use Rattle.spl_terms.specs.Clauses.{clause_symbols, part_of};
 ghost use Rattle.spl_terms.specs.InOrder.{IsInOrder, variables};
 ghost use Rattle.calculus.specs.Inferences.{clause_of, eligible_in};
 ghost use Rattle.superposition.specs.Words.{plain};
-ghost use Rattle.superposition.specs.Premises.{IsFound};
+ghost use Rattle.superposition.specs.Premises.{IsPrepared};
 
 use crate::equations::{Equation, readings_of};
 use calculus::Kept;
@@ -107,7 +107,7 @@ impl<'a> Premise<'a> {
     pub(crate) fn new(alloc: Global, kept: &'a Kept) -> Result<Premise<'a>, AllocError>
         requires size { clause_symbols (clause_of kept.now) ≤ 4096 }
         requires in_order { IsInOrder (clause_of kept.now) }
-        ensures { IfOk result (λ premise. (premise.kept.now ≡ kept.now) × IsFound premise) }
+        ensures { IfOk result (λ premise. (premise.kept.now ≡ kept.now) × IsPrepared premise) }
     {
         let variables = variables(alloc, &kept.statement.clause)?;
         let antecedent = eligible_in(alloc, kept, Part::Antecedent)?;

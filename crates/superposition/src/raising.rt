@@ -5,6 +5,7 @@ ghost use Rattle.superposition.specs.Pairs.{raised};
 use spl_terms::{Items, Term};
 use std::alloc::{AllocError, Global};
 
+/// The term with this number added to each of its variables. The only error is want of memory, or of numbers for them.
 #[cycle(raising)]
 #[tactic(auto, using(crate::proofs::Unified::replace_laws))]
 pub(crate) fn raised(alloc: Global, lift: u32, term: &Term) -> Result<Term, AllocError>
@@ -22,6 +23,7 @@ pub(crate) fn raised(alloc: Global, lift: u32, term: &Term) -> Result<Term, Allo
     }
 }
 
+/// The terms with this number added to each of their variables, as `raised` makes each of them.
 #[cycle(raising)]
 #[tactic(auto, using(crate::proofs::Unified::replace_laws))]
 pub(crate) fn all_raised(

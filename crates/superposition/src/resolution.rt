@@ -10,7 +10,7 @@ ghost use Rattle.calculus.specs.Inferences.{clause_of, resolve, resolutions};
 ghost use Rattle.superposition.specs.Appending.{Appended};
 ghost use Rattle.superposition.specs.Words.{AreInPlace};
 ghost use Rattle.superposition.specs.Pairs.{IsPair};
-ghost use Rattle.superposition.specs.Premises.{IsFound};
+ghost use Rattle.superposition.specs.Premises.{IsPrepared};
 
 use crate::appending::append_from_both;
 use crate::building::{Literals, resolvent_of};
@@ -127,8 +127,8 @@ pub(crate) fn resolve_premises(
     q: &Premise,
     out: &mut Vec<Line>,
 ) -> Result<(), InferError>
-    requires p_found { IsFound p.now }
-    requires q_found { IsFound q.now }
+    requires p_found { IsPrepared p.now }
+    requires q_found { IsPrepared q.now }
     ensures { Appended (resolutions Antecedent p.now.kept.now q.now.kept.now) out.old.items out.new.items result }
 {
     let Some(pair) = Pair::new(p.kept, p.variables, q.kept, q.variables) else {

@@ -16,21 +16,21 @@ ghost use Rattle.superposition.specs.Appending.{Appended};
 ghost use Rattle.superposition.specs.Words.{AreInPlace};
 ghost use Rattle.superposition.specs.Pairs.{IsPair, AreRestrictions, raised};
 ghost use Rattle.superposition.specs.Readings.{reading_of};
-ghost use Rattle.superposition.specs.Vast.{IsVastOrMemory, paramodulant_by};
-ghost use Rattle.superposition.specs.Premises.{IsFound};
+ghost use Rattle.superposition.specs.Sizes.{RefusesBy, paramodulant_by};
+ghost use Rattle.superposition.specs.Premises.{IsPrepared};
 ghost use Rattle.superposition.specs.Walks.{IsUsable, AreUsable, IsReady, IsUpperAt, IsSide};
 ghost use Rattle.superposition.specs.Walks.{superpose_in, superpose_lent, superpose_in_parts};
 ghost use Rattle.superposition.specs.Walks.{rewrite, rewrite_below, rewrite_argument};
 
 use crate::appending::append_from_both;
 use crate::building::paramodulant_of;
-use crate::counting::is_paramodulant_vast;
 use crate::equations::Equation;
 use crate::error::InferError;
 use crate::ordering::{Standing, standings};
 use crate::pairs::Pair;
 use crate::premises::Premise;
 use crate::raising::raised;
+use crate::refusing::refuse_paramodulant;
 use crate::unifiers::restrictions;
 use crate::upper::{is_left_upper, is_upper_raised};
 use calculus::{Kept, no_unifier_is_lost};
@@ -42,12 +42,17 @@ use unify::{Bindings, fits, unify_bound};
 
 /// An equation of the first premise on its way through an atom of the second one.
 #[derive(Clone, Copy, Debug)]
-struct Rewriting<'a> {
-    pair: Pair<'a>,
-    equation: Equation<'a>,
-    part: Part,
-    place: u32,
-    atom: &'a Atom,
+pub(crate) struct Rewriting<'a> {
+    /// Both premises.
+    pub(crate) pair: Pair<'a>,
+    /// The equation.
+    pub(crate) equation: Equation<'a>,
+    /// The part of the second premise in which the atom stands.
+    pub(crate) part: Part,
+    /// Its place there, from 0.
+    pub(crate) place: u32,
+    /// The atom.
+    pub(crate) atom: &'a Atom,
     /// How the side of the atom on which the way lies stands to the other one; `Upper` in a predicate atom.
     side: Standing,
 }
@@ -87,9 +92,48 @@ fn is_path_upper<'a>(
     }
 }
 
-/// The unifier of the left side and this term, which stands at the end of the path, where they have one that keeps the
-/// order: the left side isn't below the right one, and the path lies in an upper side. Nothing is written out where
-/// an atom of the paramodulant would have 1,000,000 symbols or more.
+/// The unifier of the left side and the term at the end of the path, whose variables are raised already, where they have
+/// one that keeps the order: the left side isn't below the right one, and the path lies in an upper side. Nothing is
+/// written out where the paramodulant would have more than 4,096 symbols.
+fn unifier_of_raised(
+    alloc: Global,
+    r: Rewriting,
+    path: &[u32],
+    term: &Term,
+) -> Result<Option<(Subst, Subst)>, InferError>
+    requires ready { IsReady r }
+    requires stands { term_under path.now (renamed_apart r.pair.p.now r.atom.now) ≡ Some term.now }
+    requires below { HasVariablesBelow r.pair.both term.now }
+    requires upper { IsUpperAt r path.now }
+    ensures ok { IfOk result (AreRestrictions r.entry.pair.first
+        (rewriting_unifier r.entry.pair.both (reading_of r.entry.equation)
+        (renamed_apart r.entry.pair.p.now r.entry.atom.now) path.now)) }
+    ensures err { IfErr result (RefusesBy
+        (rewriting_unifier r.entry.pair.both (reading_of r.entry.equation)
+        (renamed_apart r.entry.pair.p.now r.entry.atom.now) path.now)
+        (paramodulant_by r.entry.pair r.entry.equation.place
+        (record { part = r.entry.part; place = r.entry.place; path = path.now })
+        r.entry.equation.right_side.now)) }
+{
+    let Some(bindings) = unify_bound(alloc, r.equation.left_side, term, r.pair.both)? else {
+        return Ok(None);
+    };
+    let high = is_left_upper(alloc, &bindings, r.equation)?;
+    if !high {
+        return Ok(None);
+    }
+    let upper = is_path_upper(alloc, &bindings, r, path)?;
+    if !upper {
+        return Ok(None);
+    }
+    if let Err(error) = refuse_paramodulant(alloc, &bindings, r, path) {
+        return Err(error);
+    }
+    let both = restrictions(alloc, &bindings, r.pair)?;
+    Ok(Some(both))
+}
+
+/// The same of the term as it stands in the atom; its head and those in it are compared first.
 fn unifier_in_order(
     alloc: Global,
     r: Rewriting,
@@ -104,7 +148,7 @@ fn unifier_in_order(
     ensures ok { IfOk result (AreRestrictions r.entry.pair.first
         (rewriting_unifier r.entry.pair.both (reading_of r.entry.equation)
         (renamed_apart r.entry.pair.p.now r.entry.atom.now) path.now)) }
-    ensures err { IfErr result (IsVastOrMemory
+    ensures err { IfErr result (RefusesBy
         (rewriting_unifier r.entry.pair.both (reading_of r.entry.equation)
         (renamed_apart r.entry.pair.p.now r.entry.atom.now) path.now)
         (paramodulant_by r.entry.pair r.entry.equation.place
@@ -112,27 +156,11 @@ fn unifier_in_order(
         r.entry.equation.right_side.now)) }
 {
     laws::unifier_is_most_general();
-    let (pair, e) = (r.pair, r.equation);
-    if !fits(e.left_side, term) {
+    if !fits(r.equation.left_side, term) {
         return Ok(None);
     }
-    let higher = raised(alloc, pair.first, term)?;
-    let Some(bindings) = unify_bound(alloc, e.left_side, &higher, pair.both)? else {
-        return Ok(None);
-    };
-    let high = is_left_upper(alloc, &bindings, e)?;
-    if !high {
-        return Ok(None);
-    }
-    let upper = is_path_upper(alloc, &bindings, r, path)?;
-    if !upper {
-        return Ok(None);
-    }
-    if is_paramodulant_vast(&bindings, pair, e.place, r.part, r.place) {
-        return Err(InferError::Big { symbols: 1_000_000 });
-    }
-    let both = restrictions(alloc, &bindings, pair)?;
-    Ok(Some(both))
+    let higher = raised(alloc, r.pair.first, term)?;
+    unifier_of_raised(alloc, r, path, &higher)
 }
 
 /// Superposes the equation at this term, which stands at the end of the path, if they have a unifier that keeps
@@ -414,8 +442,8 @@ pub(crate) fn superpose_premises(
     q: &Premise,
     out: &mut Vec<Line>,
 ) -> Result<(), InferError>
-    requires p_found { IsFound p.now }
-    requires q_found { IsFound q.now }
+    requires p_found { IsPrepared p.now }
+    requires q_found { IsPrepared q.now }
     ensures { Appended (superpositions p.now.kept.now q.now.kept.now) out.old.items out.new.items result }
 {
     let Some(pair) = Pair::new(p.kept, p.variables, q.kept, q.variables) else {

@@ -1,5 +1,5 @@
 -- Terms that fit, as terms with a unifier do, and terms that cover others, as their instances.
-use Rattle.std.proofs.Common.{◌≡◌, ℕ, Bool, true, false, ◌&&◌, List, [], ◌∷◌, map, Option, Some, None, MatchOption, refl, sym, ap, ◌∙◌}
+use Rattle.std.proofs.Common.{◌≡◌, ℕ, Bool, true, false, ◌&&◌, List, [], ◌∷◌, map, refl, sym, ap, ◌∙◌}
 use Rattle.std.proofs.Math.Bool.{true-and}
 use Rattle.std.proofs.lemmas.Bool.{false≢true}
 use Rattle.spl_terms.specs.declared.term.Symbol.{Symbol}

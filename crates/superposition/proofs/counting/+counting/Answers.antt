@@ -1,6 +1,6 @@
 use Rattle.std.proofs.Common.{arith}
 use Rattle.spl_truth.specs.Truth.{entry}
-use Rattle.superposition.specs.Vast.{entries_from}
+use Rattle.superposition.specs.Sizes.{entries_from}
 use Rattle.superposition.proofs.Counted.{symbols_of_application}
 use Rattle.superposition.proofs.counting.+counting.Goals as goal
 

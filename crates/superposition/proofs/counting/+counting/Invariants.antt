@@ -1,7 +1,7 @@
 use Rattle.std.proofs.Common.{◌+◌, ◌≤◌, drop, sum_by}
 use Rattle.spl_terms.specs.Terms.{term_symbols, replace}
 use Rattle.spl_truth.specs.Truth.{entry}
-use Rattle.superposition.specs.Vast.{entries_from}
+use Rattle.superposition.specs.Sizes.{entries_from}
 use Rattle.superposition.proofs.counting.+counting.Given as goal
 
 -- what was counted and what is left have no more than the whole

@@ -3,7 +3,8 @@ use Rattle.std.specs.List.{flat_map}
 use Rattle.spl_truth.specs.Unifiers.{HasVariablesBelow}
 use Rattle.proof_steps.specs.declared.step.Line.{Line}
 use Rattle.superposition.specs.declared.equations.Equation.{Equation}
-use Rattle.superposition.specs.Readings.{reading_of, factor_apart}
+use Rattle.superposition.specs.Readings.{reading_of, IsReadIn, factor_apart}
+use Rattle.calculus.specs.Inferences.{clause_of}
 use Rattle.superposition.specs.Appending.{Appended}
 use Rattle.superposition.specs.Standings.{IsStanding}
 use Rattle.superposition.proofs.Lists.{each_at}
@@ -38,3 +39,6 @@ pub returns-in-Lower : goal.returns-in-Lower
 returns-in-Lower c =
     let a = c.args in
     subst (λ l. Appended l a.out.now.items a.out.now.items (Ok (tt {0}))) (factoring_skipped a.p.now (reading_of a.e) a.others.now (subst (λ x. IsStanding x a.e.left_side.now a.e.right_side.now) c.in-Lower.is c.requires.judged)) (nothing a.out.now.items (tt {0}))
+
+pub factor_equation-requires-clause-d_there : goal.factor_equation-requires-clause-d_there
+factor_equation-requires-clause-d_there c = each_at (IsReadIn (clause_of c.args.p.now)) c.args.others.now c.loop-k.k c.index-others-k.result c.requires.others_there c.loop-k-test.true c.index-others-k.is

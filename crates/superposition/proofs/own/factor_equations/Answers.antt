@@ -3,7 +3,8 @@ use Rattle.std.specs.List.{flat_map}
 use Rattle.spl_truth.specs.Unifiers.{HasVariablesBelow}
 use Rattle.proof_steps.specs.declared.step.Line.{Line}
 use Rattle.superposition.specs.declared.equations.Equation.{Equation}
-use Rattle.superposition.specs.Readings.{reading_of, factor_apart}
+use Rattle.superposition.specs.Readings.{reading_of, IsReadIn, factor_apart}
+use Rattle.calculus.specs.Inferences.{clause_of}
 use Rattle.superposition.specs.Standings.{IsStanding}
 use Rattle.superposition.specs.Appending.{Appended}
 use Rattle.superposition.proofs.Lists.{each_at}
@@ -34,3 +35,6 @@ returns-in-Err c =
     let f : Equation → List Line = λ e. flat_map (λ d. factor_apart a.p.now (reading_of e) (reading_of d)) a.others.now in
     loop_stops f a.equations.now c.loop-k.k c.index-equations-k.result (flat_map f a.equations.now) a.out.now.items c.loop-k.out.items c.loop-k-test.true c.index-equations-k.is c.loop-k.invariant c.factor_equation_with_each.new.out.items c.in-Err.error
     (subst (λ r. Appended (f c.index-equations-k.result) c.loop-k.out.items c.factor_equation_with_each.new.out.items r) c.in-Err.is c.factor_equation_with_each.ensures)
+
+pub factor_equation_with_each-requires-clause-e_there : goal.factor_equation_with_each-requires-clause-e_there
+factor_equation_with_each-requires-clause-e_there c = each_at (IsReadIn (clause_of c.args.p.now)) c.args.equations.now c.loop-k.k c.index-equations-k.result c.requires.equations_there c.loop-k-test.true c.index-equations-k.is

@@ -1,10 +1,13 @@
 use Rattle.std.proofs.Common.{Ok, sym, subst}
 use Rattle.std.specs.List.{enumerate_from}
-use Rattle.calculus.specs.Inferences.{clause_of}
+use Rattle.spl_terms.specs.declared.clause.Part.TheVariants.{Succedent}
+use Rattle.calculus.specs.Inferences.{clause_of, eligible_in}
 use Rattle.superposition.specs.Appending.{Appended}
 use Rattle.superposition.specs.AppendingLaws.{nothing}
 use Rattle.superposition.specs.Readings.{AreJudged}
 use Rattle.superposition.proofs.Alone.{read_are, own_equations_below, all_equations_below, equality_factorings_are, no_equality_factorings}
+use Rattle.superposition.proofs.Resolving.{eligible_there, all_there}
+use Rattle.superposition.proofs.Walked.{read_in}
 use Rattle.superposition.proofs.own.factor_equations_of.Goals as goal
 
 pub factor_equations-requires-clause-equations_below : goal.factor_equations-requires-clause-equations_below
@@ -39,3 +42,16 @@ returns c =
     (read_are (enumerate_from 0 (clause_of x.kept.now).succedent) c.in_ok-atoms.atoms.items c.as_slice.result.now c.in_ok-others.others.items c.in_ok-atoms.ensures c.as_slice.ensures.value c.in_ok-others.ensures.readings)
     c.as_slice-2.ensures.value)
     c.factor_equations.ensures
+
+pub factor_equations-requires-clause-equations_there : goal.factor_equations-requires-clause-equations_there
+factor_equations-requires-clause-equations_there c =
+    let x = c.args.p.now in
+    read_in x.kept.now (eligible_in x.kept.now Succedent) x.equations.items c.as_slice-equations.result.now (eligible_there x.kept.now Succedent) c.requires.equations c.as_slice-equations.ensures.value
+
+pub factor_equations-requires-clause-others_there : goal.factor_equations-requires-clause-others_there
+factor_equations-requires-clause-others_there c =
+    let x = c.args.p.now in
+    let all = enumerate_from 0 (clause_of x.kept.now).succedent in
+    read_in x.kept.now all c.in_ok-others.others.items c.as_slice-2.result.now (all_there x.kept.now Succedent)
+    (read_are all c.in_ok-atoms.atoms.items c.as_slice.result.now c.in_ok-others.others.items c.in_ok-atoms.ensures c.as_slice.ensures.value c.in_ok-others.ensures.readings)
+    c.as_slice-2.ensures.value

@@ -1,9 +1,11 @@
-use Rattle.std.proofs.Common.{arith, subst, List}
+use Rattle.std.proofs.Common.{◌≡◌, Some, arith, subst, List}
 use Rattle.std.specs.List.{flat_map}
 use Rattle.std.proofs.Common.{ℕ}
 use Rattle.std.specs.Borrow.{Bor}
 use Rattle.spl_terms.specs.declared.atom.Atom.{Atom}
 use Rattle.proof_steps.specs.declared.step.Line.{Line}
+use Rattle.spl_terms.specs.declared.clause.Part.TheVariants.{Antecedent}
+use Rattle.proof_steps.specs.Spots.{atom_at}
 use Rattle.spl_terms.specs.InOrder.{variables}
 use Rattle.proof_steps.specs.declared.step.Rule.TheVariants.{Reflex}
 use Rattle.calculus.specs.Inferences.{clause_of, by_unifier, sides_unifier}
@@ -34,3 +36,6 @@ returns-in-Err c =
     let f : ℕ × Bor Atom → List Line = λ x. by_unifier a.p.now (Reflex x.0) (sides_unifier (variables (clause_of a.p.now)) x.1.now) in
     loop_stops f a.places.now c.loop-k.k c.index-places-k.result (flat_map f a.places.now) a.out.now.items c.loop-k.out.items c.loop-k-test.true c.index-places-k.is c.loop-k.invariant c.reflect.new.out.items c.in-Err.error
     (subst (λ r. Appended (f c.index-places-k.result) c.loop-k.out.items c.reflect.new.out.items r) c.in-Err.is c.reflect.ensures)
+
+pub reflect-requires-clause-there : goal.reflect-requires-clause-there
+reflect-requires-clause-there c = each_at (λ x. atom_at Antecedent x.0 (clause_of c.args.p.now) ≡ Some x.1.now) c.args.places.now c.loop-k.k c.index-places-k.result c.requires.there c.loop-k-test.true c.index-places-k.is

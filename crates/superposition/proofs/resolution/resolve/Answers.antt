@@ -3,8 +3,8 @@ use Rattle.std.specs.Prelude.{IfErr}
 use Rattle.proof_steps.specs.declared.step.Rule.TheVariants.{Resolve}
 use Rattle.superposition.specs.declared.building.Literals.{Literals}
 use Rattle.superposition.specs.Words.{line_of_both}
-use Rattle.superposition.specs.Vast.{IsVastOrMemory, resolvent_by}
-use Rattle.superposition.proofs.Counted.{stopped_early}
+use Rattle.superposition.specs.Sizes.{RefusesBy, resolvent_by}
+use Rattle.superposition.proofs.Sized.{stopped_early}
 use Rattle.calculus.specs.Inferences.{clause_of, by_entries, atom_unifier, renamed_apart}
 use Rattle.superposition.specs.Appending.{Appended}
 use Rattle.superposition.specs.AppendingLaws.{nothing}
@@ -68,7 +68,7 @@ returns-in-Err c =
     let b = c.args.second.1.now in
     let literals : Literals = record { i = i; part = part; j = j } in
     let o = atom_unifier pair.both a (renamed_apart pair.p.now b) in
-    stopped_early o (resolvent_by pair literals) _ c.args.out.now.items c.in-Err.error (subst (λ r. IfErr r (IsVastOrMemory o (resolvent_by pair literals))) c.in-Err.is c.unifier_apart.ensures.err)
+    stopped_early o (resolvent_by pair literals) _ c.args.out.now.items c.in-Err.error (subst (λ r. IfErr r (RefusesBy o (resolvent_by pair literals))) c.in-Err.is c.unifier_apart.ensures.err)
     (λ u unified.
     let s = by_entries (take pair.first u) in
     let t = by_entries (drop pair.first u) in

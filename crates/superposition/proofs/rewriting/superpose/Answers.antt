@@ -3,8 +3,8 @@ use Rattle.std.specs.Prelude.{IfErr}
 use Rattle.spl_terms.specs.declared.clause.Spot.{Spot}
 use Rattle.proof_steps.specs.declared.step.Rule.TheVariants.{Paramodulate}
 use Rattle.superposition.specs.Words.{line_of_both}
-use Rattle.superposition.specs.Vast.{IsVastOrMemory, paramodulant_by}
-use Rattle.superposition.proofs.Counted.{stopped_early}
+use Rattle.superposition.specs.Sizes.{RefusesBy, paramodulant_by}
+use Rattle.superposition.proofs.Sized.{stopped_early}
 use Rattle.calculus.specs.Inferences.{by_entries, rewriting_unifier}
 use Rattle.superposition.specs.Appending.{Appended}
 use Rattle.superposition.specs.AppendingLaws.{nothing}
@@ -47,7 +47,7 @@ returns-in-Err c =
     let path = c.args.path.now in
     let spot : Spot = record { part = r.part; place = r.place; path = path } in
     let o = rewriting_unifier pair.both e (raised_atom r) path in
-    stopped_early o (paramodulant_by pair e.place spot e.right_side) _ c.args.out.now.items c.in-Err.error (subst (λ x. IfErr x (IsVastOrMemory o (paramodulant_by pair e.place spot e.right_side))) c.in-Err.is c.unifier_in_order.ensures.err)
+    stopped_early o (paramodulant_by pair e.place spot e.right_side) _ c.args.out.now.items c.in-Err.error (subst (λ x. IfErr x (RefusesBy o (paramodulant_by pair e.place spot e.right_side))) c.in-Err.is c.unifier_in_order.ensures.err)
     (λ u unified.
     let s = by_entries (take pair.first u) in
     let t = by_entries (drop pair.first u) in

@@ -4,7 +4,7 @@ use Rattle.spl_truth.specs.Unifiers.{HaveVariablesBelow}
 use Rattle.calculus.specs.Inferences.{renamed_apart}
 use Rattle.superposition.specs.Words.{IsAtomBelow}
 use Rattle.superposition.specs.Pairs.{AreRestrictions, raised}
-use Rattle.superposition.specs.Vast.{IsVastOrMemory, resolvent_by}
+use Rattle.superposition.specs.Sizes.{RefusesBy, resolvent_by}
 use Rattle.superposition.proofs.Unified.{heads_apart, heads_alike}
 use Rattle.superposition.proofs.unifiers.unifier_apart.Goals as goal
 
@@ -37,6 +37,6 @@ pub returns-else-not-same-clause-err : goal.returns-else-not-same-clause-err
 returns-else-not-same-clause-err c =
     let w = c.in-Holds-Holds in
     let pair = c.args.pair in
-    subst (λ o. IfErr c.unifier_of_arguments_apart.result (IsVastOrMemory o (resolvent_by pair c.args.literals)))
+    subst (λ o. IfErr c.unifier_of_arguments_apart.result (RefusesBy o (resolvent_by pair c.args.literals)))
     (heads_alike pair.both c.args.a.now (renamed_apart pair.p.now c.args.b.now) w.head w.other w.args _ _ _ w.is-0 (ap (renamed_apart pair.p.now) w.is-1) (sym c.same.ensures ∙ c.if-not-same.false) c.as_slice.ensures (λ k. map (raised (c.requires.pair.first k)) (c.as_slice-in-Holds-Holds.ensures k)))
     (c.unifier_of_arguments_apart.ensures.err w.head)

@@ -1,11 +1,14 @@
-use Rattle.std.proofs.Common.{◌≡◌, ◌∙◌, List, map, Some, None, refl, sym, subst}
-use Rattle.std.proofs.lemmas.Bool.{OnTrue_at}
+use Rattle.std.proofs.Common.{◌≡◌, ◌∙◌, List, map, Some, None, sym, subst}
+use Rattle.std.specs.Prelude.{IfErr}
+use Rattle.spl_terms.specs.declared.clause.Clause.{Clause}
 use Rattle.spl_terms.specs.declared.term.Kind.TheVariants.{Function}
 use Rattle.spl_terms.specs.declared.term.Symbol.{Symbol}
 use Rattle.spl_terms.specs.declared.term.Term.{Term, App}
 use Rattle.spl_truth.specs.Unifiers.{HaveVariablesBelow, entries_below, unifier}
 use Rattle.unify.specs.Bindings.{substitution}
 use Rattle.superposition.specs.Pairs.{AreRestrictions, raised}
+use Rattle.superposition.specs.Sizes.{resolvent_by, Refuses}
+use Rattle.superposition.proofs.Sized.{refused_by}
 use Rattle.superposition.proofs.Bound.{bound_none, bound_triangular, bound_is}
 use Rattle.superposition.proofs.Unified.{arguments_apart}
 use Rattle.superposition.proofs.unifiers.unifier_of_arguments_apart.Goals as goal
@@ -34,14 +37,15 @@ returns-clause-ok c = λ head.
     subst (λ l. AreRestrictions c.args.pair.first (unifier c.args.pair.both (App head c.args.args.now) (App head l)) (Some c.in_ok-both.both)) all
     (subst (λ o. AreRestrictions c.args.pair.first o (Some c.in_ok-both.both)) (sym (bound_is c.args.pair.both (App head c.args.args.now) (App head c.as_slice.result.now) _ (c.in_ok-bindings.ensures.exact head) c.in-Some.bindings c.in-Some.is)) c.in_ok-both.ensures)
 
-pub is_resolvent_vast-requires-clause-triangular : goal.is_resolvent_vast-requires-clause-triangular
-is_resolvent_vast-requires-clause-triangular c = bound_triangular c.args.pair.both (App any_symbol c.args.args.now) (App any_symbol c.as_slice.result.now) _ (c.in_ok-bindings.ensures.exact any_symbol) _ c.in-Some.is
+pub refuse_resolvent-requires-clause-triangular : goal.refuse_resolvent-requires-clause-triangular
+refuse_resolvent-requires-clause-triangular c = bound_triangular c.args.pair.both (App any_symbol c.args.args.now) (App any_symbol c.as_slice.result.now) _ (c.in_ok-bindings.ensures.exact any_symbol) _ c.in-Some.is
 
-pub returns-then-is_resolvent_vast-clause-err : goal.returns-then-is_resolvent_vast-clause-err
-returns-then-is_resolvent_vast-clause-err c = λ head.
+pub returns-in-Err-clause-err : goal.returns-in-Err-clause-err
+returns-in-Err-clause-err c = λ head.
     let bs = c.in-Some.bindings in
     let u : List Term = entries_below c.args.pair.both (substitution bs.1) in
     let all : c.as_slice.result.now ≡ map (raised c.args.pair.first) c.args.others.now = c.as_slice.ensures ∙ c.in_ok-higher.ensures in
     let unified : unifier c.args.pair.both (App head c.args.args.now) (App head (map (raised c.args.pair.first) c.args.others.now)) ≡ Some u =
     subst (λ l. unifier c.args.pair.both (App head c.args.args.now) (App head l) ≡ Some u) all (bound_is c.args.pair.both (App head c.args.args.now) (App head c.as_slice.result.now) _ (c.in_ok-bindings.ensures.exact head) bs c.in-Some.is) in
-    (u, unified, refl, OnTrue_at c.if-is_resolvent_vast.true c.is_resolvent_vast.ensures)
+    let conclusion : List Term → Clause = resolvent_by c.args.pair c.args.literals in
+    refused_by (unifier c.args.pair.both (App head c.args.args.now) (App head (map (raised c.args.pair.first) c.args.others.now))) conclusion u c.in-Err.error unified (subst (λ x. IfErr x (Refuses (conclusion u))) c.in-Err.is c.refuse_resolvent.ensures)

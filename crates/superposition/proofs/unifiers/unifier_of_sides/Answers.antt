@@ -1,8 +1,8 @@
 use Rattle.superposition.proofs.Alone.{left_below, right_below}
 use Rattle.superposition.proofs.unifiers.unifier_of_sides.Goals as goal
 
-pub unify-requires-clause-a_below : goal.unify-requires-clause-a_below
-unify-requires-clause-a_below c = left_below c.args.vars c.args.atom.now c.in-Equal.left c.in-Equal.right c.in-Equal.is c.requires
+pub unifier_of_terms-requires-clause-left_below : goal.unifier_of_terms-requires-clause-left_below
+unifier_of_terms-requires-clause-left_below c = left_below c.args.vars c.args.atom.now c.in-Equal.left c.in-Equal.right c.in-Equal.is c.requires.below
 
-pub unify-requires-clause-b_below : goal.unify-requires-clause-b_below
-unify-requires-clause-b_below c = right_below c.args.vars c.args.atom.now c.in-Equal.left c.in-Equal.right c.in-Equal.is c.requires
+pub unifier_of_terms-requires-clause-right_below : goal.unifier_of_terms-requires-clause-right_below
+unifier_of_terms-requires-clause-right_below c = right_below c.args.vars c.args.atom.now c.in-Equal.left c.in-Equal.right c.in-Equal.is c.requires.below

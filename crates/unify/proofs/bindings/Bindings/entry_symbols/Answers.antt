@@ -1,7 +1,6 @@
-use Rattle.std.proofs.Common.{◌≡◌, ◌∙◌, min, sym, ap, arith}
+use Rattle.std.proofs.Common.{◌∙◌, min, sym, ap, arith}
 use Rattle.spl_terms.specs.Terms.{term_symbols}
 use Rattle.spl_terms.specs.TermLaws.{term_symbols-Var}
-use Rattle.unify.specs.Bindings.{substitution}
 use Rattle.unify.proofs.TriangularLemmas.{stands, looked_up}
 use Rattle.unify.proofs.bindings.Bindings.entry_symbols.Goals as goal
 
