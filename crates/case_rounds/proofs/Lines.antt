@@ -18,7 +18,7 @@ use Rattle.case_view.specs.declared.kept.Case.{Case}
 use Rattle.case_rounds.specs.declared.halt.Halt.{Halt}
 use Rattle.case_rounds.specs.declared.halt.Halt.TheVariants as halts
 use Rattle.case_view.specs.Views.{IsIn, IsOrdered, IsPartnerOf}
-use Rattle.case_rounds.specs.Rounds.{Extends, IsInference, HasAll, IsStopOf, IsPremiseOf, IsPairOf, IsLineOf, AreLinesOf, IsRound, IsAmong, IsCoveredIn, Covers, IsHaltOf}
+use Rattle.case_rounds.specs.Rounds.{Extends, IsInference, HasAll, IsStopOf, IsPremiseOf, IsPremiseAt, IsPairOf, IsLineOf, AreLinesOf, IsRound, IsAmong, IsCoveredIn, Covers, IsHaltOf}
 use Rattle.case_rounds.proofs.Places.{made}
 use Rattle.case_rounds.specs.InLaws.{in_either, in_one}
 use Rattle.case_rounds.proofs.Rows.{in_right, stated_in}
@@ -184,16 +184,29 @@ both_extends v a b given other f h = (covers_extends v a b given other f h.0, co
 abbrev pub CoversFirst : Case → List Line → Kept → List ℕ → ℕ → Type 0
 CoversFirst v lines given places n = (k p : ℕ) (other : Kept) → k < n → slice_get places k ≡ Some p → slice_get v.worked p ≡ Some other → CoversBoth v lines given other
 
-pub first_more : (v : Case) (a b : List Line) (given : Kept) (places : List ℕ) (n p : ℕ) (other : Kept) → Extends a b → CoversFirst v a given places n → slice_get places n ≡ Some p → slice_get v.worked p ≡ Some other → CoversBoth v b given other → CoversFirst v b given places (n + 1)
-first_more v a b given places n p other f before at is here k q x low found there = elim (cases_lt k n) [
-  | inl less ↦ both_extends v a b given x f (before k q x less found there)
+-- one clause stands at a place, and is a premise
+premise_same : (v : Case) (given : Kept) (places : List ℕ) (n : ℕ) (x y : Kept) → IsPremiseAt v given places n x → IsPremiseAt v given places n y → x ≡ y
+premise_same v given places zero x y g h = sym g ∙ h
+premise_same v given places (suc k) x y g h =
+    let e : Some g.0 ≡ Some h.0 = sym g.1 ∙ h.1 in
+    let p : g.0 ≡ h.0 = cc in
+    let z : Some x ≡ Some y = sym g.2 ∙ (ap (slice_get v.worked) p ∙ h.2) in
+    cc
+
+pub premise_is : (v : Case) (given : Kept) (places : List ℕ) (n : ℕ) (x : Kept) → v.given ≡ Some given → IsPremiseAt v given places n x → IsPremiseOf v x
+premise_is v given places zero x is h = inl (is ∙ ap Some h)
+premise_is v given places (suc k) x is h = inr (h.0, h.2)
+
+-- of the first n clauses that are tried
+abbrev pub CoversPremises : Case → List Line → Kept → List ℕ → ℕ → Type 0
+CoversPremises v lines given places n = (k : ℕ) (other : Kept) → k < n → IsPremiseAt v given places k other → CoversBoth v lines given other
+
+pub premises_more : (v : Case) (a b : List Line) (given : Kept) (places : List ℕ) (n : ℕ) (other : Kept) → Extends a b → CoversPremises v a given places n → IsPremiseAt v given places n other → CoversBoth v b given other → CoversPremises v b given places (n + 1)
+premises_more v a b given places n other f before at here k x low there = elim (cases_lt k n) [
+  | inl less ↦ both_extends v a b given x f (before k x less there)
   | inr more ↦
-      let same : n ≡ k = omega (arith, low, more) in
-      let e : Some p ≡ Some q = sym at ∙ (ap (slice_get places) same ∙ found) in
-      let r : p ≡ q = cc in
-      let y : Some other ≡ Some x = sym is ∙ (ap (slice_get v.worked) r ∙ there) in
-      let z : other ≡ x = cc in
-      subst (CoversBoth v b given) z here
+      let same : k ≡ n = omega (arith, low, more) in
+      subst (CoversBoth v b given) (premise_same v given places n other x at (subst (λ j. IsPremiseAt v given places j x) same there)) here
 ]
 
 -- whatever is no partner concludes nothing
@@ -209,9 +222,9 @@ partners_cover v lines given places n is long first all i other at = (
         let c = all i other at h in
         first c.0 i other (omega (arith, c.1, long)) (contains_at places i c) at
 
-pub all_pairs : (v : Case) (lines : List Line) (given : Kept) (places : List ℕ) (n : ℕ) → v.given ≡ Some given → CoversBoth v lines given given → length places ≤ n → CoversFirst v lines given places n
+pub all_pairs : (v : Case) (lines : List Line) (given : Kept) (places : List ℕ) (n : ℕ) → v.given ≡ Some given → length places < n → CoversPremises v lines given places n
     → ((i : ℕ) (other : Kept) → slice_get v.worked i ≡ Some other → IsPartnerOf v other → Contains places i) → (p q : Kept) → IsPairOf v p q → Covers v lines p q
-all_pairs v lines given places n is own long first all p q pair = elim pair.one [
+all_pairs v lines given places n is long tried all p q pair = elim pair.one [
   | inl h ↦ subst (λ x. Covers v lines x q) (same p h) (with_given q pair.right).0
   | inr h ↦ subst (Covers v lines p) (same q h) (with_given p pair.left).1
 ]
@@ -220,8 +233,8 @@ all_pairs v lines given places n is own long first all p q pair = elim pair.one 
     same x h = let e : Some given ≡ Some x = sym is ∙ h in cc
 
     with_given : (x : Kept) → IsPremiseOf v x → CoversBoth v lines given x
-    with_given x (inl h) = subst (CoversBoth v lines given) (same x h) own
-    with_given x (inr at) = partners_cover v lines given places n is long first all at.0 x at.1
+    with_given x (inl h) = subst (CoversBoth v lines given) (same x h) (tried 0 given (omega (arith, long)) refl)
+    with_given x (inr at) = partners_cover v lines given places (length places) is (omega arith) (λ k p other low found there. tried (suc k) other (omega (arith, long, low)) (p, found, there)) all at.0 x at.1
 
 -- ---- inferences with the given clause
 

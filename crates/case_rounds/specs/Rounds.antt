@@ -1,5 +1,5 @@
 -- What a worker computes in a round, said of its view alone: no journal, no table.
-use Rattle.std.specs.Prelude.{◌≡◌, ◌⊎◌, ℕ, suc, ◌<◌, ◌≤◌, min, false, true, List, ◌++◌, length, Some, None, IsSomeAnd, slice_get}
+use Rattle.std.specs.Prelude.{◌≡◌, ◌⊎◌, ℕ, zero, suc, ◌<◌, ◌≤◌, min, false, true, List, ◌++◌, length, Some, None, IsSomeAnd, slice_get}
 use Rattle.spl_terms.specs.declared.clause.Part.{Part}
 use Rattle.spl_terms.specs.declared.clause.Clause.{Clause}
 use Rattle.spl_terms.specs.Clauses.{clause_symbols, is_empty}
@@ -77,6 +77,11 @@ pub record IsPairOf (v : Case) (p q : Kept) : Type 0 where
   pub left : IsPremiseOf v p
   pub right : IsPremiseOf v q
   pub one : (v.given ≡ Some p) ⊎ (v.given ≡ Some q)
+
+-- at this place of the clauses that are tried with the given one: itself, and behind it the worked clauses at these places
+abbrev pub IsPremiseAt : Case → Kept → List ℕ → ℕ → Kept → Type 0
+IsPremiseAt v given places zero other = given ≡ other
+IsPremiseAt v given places (suc k) other = (p : ℕ) × (slice_get places k ≡ Some p) × (slice_get v.worked p ≡ Some other)
 
 -- the line resolves such a pair
 pub record IsLineOf (v : Case) (l : Line) : Type 0 where

@@ -1,7 +1,7 @@
 //! What a worker computes in a round.
-ghost use Rattle.std.specs.Prelude.{◌≡◌, OnOk, IfOk, IfErr, IsSome, Some, [], map, option_to_list};
+ghost use Rattle.std.specs.Prelude.{◌≡◌, ℕ, ◌<◌, ◌≤◌, OnOk, IfOk, IfErr, IsSome, Some, Contains, [], length, map, option_to_list};
 ghost use Rattle.case_view.specs.declared.kept.Kept.{Kept};
-ghost use Rattle.case_rounds.specs.Rounds.{Extends, IsPremiseOf, IsPairOf, IsRound, AreLinesOf, Covers, IsFinishOf, IsHaltOf};
+ghost use Rattle.case_rounds.specs.Rounds.{Extends, IsPremiseOf, IsPairOf, IsPremiseAt, IsRound, AreLinesOf, Covers, IsFinishOf, IsHaltOf};
 ghost use Rattle.case_rounds.specs.Events.{publication_of, AreLastOf, AreEventsOf, IsBatchOf};
 
 use crate::belonging::owner_on;
@@ -64,6 +64,19 @@ fn cover_pair(
     Ok(())
 }
 
+/// The clause at this place, from 0, of those with which the given clause is tried: itself, and behind it the clauses that
+/// are worked off and may be its partners.
+fn premise_at<'a>(view: &'a CaseView, given: &'a Kept, partners: &[u32], place: usize) -> &'a Kept
+    requires there { place ≤ length partners.now }
+    requires worked { (n : ℕ) → Contains partners.now n → n < length view.now.worked }
+    ensures { IsPremiseAt view.now given.now partners.now place result.now }
+{
+    if place == 0 {
+        return given;
+    }
+    &view.worked()[partners[place - 1] as usize]
+}
+
 /// Infers all from the given clause with itself and with each clause that is worked off and may be its partner.
 fn cover_all(
     alloc: Global,
@@ -77,10 +90,9 @@ fn cover_all(
     ensures covers { OnOk result ((p q : Kept) → IsPairOf view.now p q → Covers view.now lines.new p q) }
     ensures halt { IfErr result (IsHaltOf view.now lines.new) }
 {
-    cover_pair(alloc, view, lines, given, given)?;
     let partners = view.partners()?;
-    for k in 0..partners.len() {
-        let other = &view.worked()[partners[k] as usize];
+    for place in 0..partners.len() + 1 {
+        let other = premise_at(view, given, partners.as_slice(), place);
         cover_pair(alloc, view, lines, given, other)?;
     }
     Ok(())
