@@ -26,3 +26,4 @@ pub mod Found
 pub mod Listed
 pub mod Formed
 pub mod OfSymbols
+pub mod FiledOnes
