@@ -27,3 +27,5 @@ pub mod Listed
 pub mod Formed
 pub mod OfSymbols
 pub mod FiledOnes
+pub mod Marked
+pub mod Whole

@@ -182,6 +182,7 @@ pub fn form_all(forming: &mut Forming, alloc: Global, entries: &[Entry]) -> Resu
     requires few { length entries.now < 2 ^ 32 }
     requires different { (e : Entry) → Contains entries.now e → all_distinct (bindings e.formula) ≡ true }
     ensures formed { OnOk result (HasFormedAll forming.old forming.new (map entry_formula entries.now)) }
+    ensures limits { OnOk result (IsWithinLimits forming.new) }
     ensures refused { IsRefused (first_refusal 1 (length forming.old.clauses) (length forming.old.signature)
         (map entry_formula entries.now)) result }
 {
