@@ -7,7 +7,8 @@ use Rattle.spl_terms.specs.declared.term.Term.{Var}
 use Rattle.spl_terms.specs.Terms.{term_variables}
 use Rattle.spl_terms.specs.TermLaws.{term_variables-App, term_variables-Var}
 use Rattle.formulas.specs.Negations.{Form, for_some}
-use Rattle.normal_form.specs.Skolem.{is_member, all_but, free_variables, Place, skolem_arguments, skolem_symbol, skolem_term, with_skolem}
+use Rattle.normal_form.specs.Skolem.{all_but, free_variables, Place, skolem_arguments, skolem_symbol, skolem_term, with_skolem}
+use Rattle.formulas.specs.Bindings.{is_member}
 use Rattle.spl_terms.specs.declared.term.Kind.TheVariants.{Function}
 use Rattle.normal_form.specs.declared.scope.SkolemTerms.{SkolemTerms}
 use Rattle.normal_form.specs.Blocks.{skolem_at}

@@ -8,7 +8,7 @@ use Rattle.std.proofs.lemmas.Bool.{eqb-true, eq-eqb, false≢true}
 use Rattle.std.proofs.lemmas.List.Folds.{list_any-append}
 use Rattle.std.proofs.lemmas.Option.{same_Some}
 use Rattle.spl_terms.specs.Hashes.{Places}
-use Rattle.normal_form.specs.Skolem.{is_member}
+use Rattle.formulas.specs.Bindings.{is_member}
 use Rattle.normal_form.specs.Marking.{is_marked, HasOwnNumbers, AreMarked, MarksMore}
 use Rattle.normal_form.proofs.Members.{member_flat_map}
 use Rattle.normal_form.proofs.Blocks.{found, same_answers}

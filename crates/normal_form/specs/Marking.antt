@@ -2,7 +2,7 @@
 use Rattle.std.specs.Prelude.{◌≡◌, ℕ, Bool, ◌||◌, nat_eq, List, Some, is_some}
 use Rattle.std.specs.HashMap.{get}
 use Rattle.spl_terms.specs.Hashes.{Places}
-use Rattle.normal_form.specs.Skolem.{is_member}
+use Rattle.formulas.specs.Bindings.{is_member}
 
 abbrev pub is_marked : Places → ℕ → Bool
 is_marked marks u = is_some (get nat_eq marks u)

@@ -8,7 +8,7 @@ ghost use Rattle.formulas.specs.Counts.{clause_count, existentials};
 ghost use Rattle.formulas.specs.Entries.{stands, entry_formula};
 ghost use Rattle.normal_form.specs.Choices.{arities};
 ghost use Rattle.normal_form.specs.ClauseSets.{first_big, form_refusal, first_refusal, IsRefused, HasFormed, HasFormedAll, IsWithinLimits};
-ghost use Rattle.normal_form.specs.Law.{bindings, all_distinct};
+ghost use Rattle.formulas.specs.Bindings.{bindings, all_distinct};
 ghost use Rattle.normal_form.specs.NormalForm.{clauses_of_form};
 ghost use Rattle.normal_form.specs.Skolem.{start};
 

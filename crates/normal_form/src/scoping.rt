@@ -4,9 +4,8 @@ ghost use Rattle.std.specs.Prelude.{◌≡◌, [], ◌∷◌, ◌++◌, ◌+◌,
 ghost use Rattle.std.specs.List.{filter};
 ghost use Rattle.spl_terms.specs.Terms.{term_variables};
 ghost use Rattle.formulas.specs.Negations.{signed_form};
-ghost use Rattle.normal_form.specs.Law.{bindings};
-ghost use Rattle.normal_form.specs.Skolem.{is_member};
-ghost use Rattle.normal_form.specs.Blocks.{term_in, scope_in, is_universal, place_below, numbers_from, existential_block};
+ghost use Rattle.formulas.specs.Bindings.{bindings, is_member, numbers_from};
+ghost use Rattle.normal_form.specs.Blocks.{term_in, scope_in, is_universal, place_below, existential_block};
 ghost use Rattle.normal_form.specs.Walking.{AreFresh, standing_in, arguments_in};
 ghost use Rattle.normal_form.specs.Marking.{is_marked, HasOwnNumbers, AreMarked, MarksMore};
 

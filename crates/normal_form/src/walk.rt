@@ -5,11 +5,11 @@ ghost use Rattle.std.specs.Prelude.{◌≡◌, ◌∷◌, ◌++◌, [], ◌<◌,
 ghost use Rattle.formulas.specs.Negations.{signed_form, all_of, some_hold};
 ghost use Rattle.formulas.specs.Counts.{form_count, clause_count};
 ghost use Rattle.normal_form.specs.declared.scope.Block.{Block};
-ghost use Rattle.normal_form.specs.Blocks.{place_below, term_in, numbers_from, for_each, for_any, universal_block, existential_block};
+ghost use Rattle.normal_form.specs.Blocks.{place_below, term_in, for_each, for_any, universal_block, existential_block};
+ghost use Rattle.formulas.specs.Bindings.{numbers_from, bindings};
 ghost use Rattle.normal_form.specs.Gathering.{with_signed_atom, IsGathered};
 ghost use Rattle.spl_terms.specs.Clauses.{IsEmpty, replace_in_atom};
 ghost use Rattle.normal_form.specs.Walking.{CanAdd, AreFresh, one_of, both_of, agreement, difference, AddsChosen};
-ghost use Rattle.normal_form.specs.Law.{bindings};
 
 use crate::gathering::Gathering;
 use crate::scope::{Block, atom_instance, atom_instance_symbols};

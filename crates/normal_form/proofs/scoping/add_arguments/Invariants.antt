@@ -1,6 +1,6 @@
 use Rattle.std.proofs.Common.{◌≡◌, ◌++◌}
 use Rattle.std.specs.List.{filter}
-use Rattle.normal_form.specs.Blocks.{numbers_from}
+use Rattle.formulas.specs.Bindings.{numbers_from}
 use Rattle.normal_form.specs.Marking.{is_marked}
 use Rattle.normal_form.proofs.scoping.add_arguments.Given as goal
 

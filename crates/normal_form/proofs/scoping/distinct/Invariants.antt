@@ -1,6 +1,6 @@
 use Rattle.std.proofs.Common.{◌≡◌, ℕ, nat_eq, take}
 use Rattle.std.specs.HashSet.{contains}
-use Rattle.normal_form.specs.Skolem.{is_member}
+use Rattle.formulas.specs.Bindings.{is_member}
 use Rattle.normal_form.proofs.scoping.distinct.Given as goal
 
 abbrev pub invariant-loop-number : goal.invariant-loop-number

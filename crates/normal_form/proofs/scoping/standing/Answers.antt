@@ -4,7 +4,7 @@ use Rattle.std.proofs.lemmas.List.{take_all}
 use Rattle.spl_terms.specs.Terms.{term_variables}
 use Rattle.normal_form.specs.Blocks.{term_in}
 use Rattle.normal_form.specs.Occurring.{occurring}
-use Rattle.normal_form.specs.Skolem.{is_member}
+use Rattle.formulas.specs.Bindings.{is_member}
 use Rattle.normal_form.specs.Marking.{AreMarked}
 use Rattle.normal_form.proofs.Marked.{same_marked, same_spread}
 use Rattle.normal_form.proofs.scoping.standing.Goals as goal
