@@ -7,3 +7,5 @@ pub mod FormLaws
 pub mod Counts
 pub mod Entries
 pub mod AtomTests
+pub mod Bindings
+pub mod BindingLaws

@@ -12,7 +12,8 @@ use Rattle.formulas.specs.FormLaws.{form-Forall, form-Exists}
 use Rattle.normal_form.specs.declared.scope.Block.{Block}
 use Rattle.normal_form.specs.Skolem.{Place, with_variable, with_skolem, skolem_arguments}
 use Rattle.normal_form.specs.Choices.{literals_chosen}
-use Rattle.normal_form.specs.Blocks.{with_block, term_in, is_universal, numbers_from, scope_in, place_below, for_each, for_any, with_variables, with_skolems, universal_block, existential_block}
+use Rattle.normal_form.specs.Blocks.{with_block, term_in, is_universal, scope_in, place_below, for_each, for_any, with_variables, with_skolems, universal_block, existential_block}
+use Rattle.formulas.specs.Bindings.{numbers_from}
 use Rattle.normal_form.proofs.Blocks.{same_arguments}
 
 pub last_block : (outer : List Block) (b : Block) (v : ℕ) → term_in (outer ++ b ∷ []) v ≡ with_block (term_in outer) b v

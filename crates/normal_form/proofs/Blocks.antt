@@ -7,7 +7,8 @@ use Rattle.spl_terms.specs.declared.term.Term.{Var}
 use Rattle.spl_terms.specs.Terms.{term_variables}
 use Rattle.spl_terms.specs.TermLaws.{term_variables-App, term_variables-Var}
 use Rattle.formulas.specs.Negations.{Form, for_some}
-use Rattle.normal_form.specs.Skolem.{is_member, all_but, free_variables, Place, skolem_arguments, skolem_symbol, skolem_term, with_skolem}
+use Rattle.normal_form.specs.Skolem.{all_but, free_variables, Place, skolem_arguments, skolem_symbol, skolem_term, with_skolem}
+use Rattle.formulas.specs.Bindings.{is_member}
 use Rattle.spl_terms.specs.declared.term.Kind.TheVariants.{Function}
 use Rattle.normal_form.specs.declared.scope.SkolemTerms.{SkolemTerms}
 use Rattle.normal_form.specs.Blocks.{skolem_at}
@@ -38,7 +39,7 @@ passes test u (x ∷ xs) h = at_test (test x) refl h (passes test u xs)
     ]
     at_test false e k later = later k
 
-same_answers : (a b : Bool) → (a ≡ true → b ≡ true) → (b ≡ true → a ≡ true) → a ≡ b
+pub same_answers : (a b : Bool) → (a ≡ true → b ≡ true) → (b ≡ true → a ≡ true) → a ≡ b
 same_answers true b f g = sym (f refl)
 same_answers false true f g = g refl
 same_answers false false f g = refl

@@ -4,7 +4,7 @@ use Rattle.std.specs.Option.{option_or}
 use Rattle.std.specs.List.{AllByRecursion}
 use Rattle.spl_terms.specs.InOrder.{IsInOrder}
 use Rattle.spl_terms.specs.InOrderLaws.{in_order-IsInOrder}
-use Rattle.std.proofs.lemmas.Bool.{lt-ltb, le-ltb}
+use Rattle.std.proofs.lemmas.Bool.{lt-ltb, le-ltb, ltb-false}
 use Rattle.std.proofs.lemmas.Option.{none-some, same_Some}
 use Rattle.spl_terms.specs.declared.clause.Clause.{Clause}
 use Rattle.spl_terms.specs.Clauses.{clause_symbols}
@@ -149,3 +149,45 @@ ordered_both (c ∷ cs) ds a b = (a.0, ordered_both cs ds a.1 b)
 pub all_in_order : (next : ℕ) (fs : List Tree) → AllByRecursion IsInOrder (normal_form next fs)
 all_in_order next [] = tt
 all_in_order next (f ∷ fs) = ordered_both (clauses_of_form next (form f)) (normal_form (next + existentials (form f)) fs) (ordered_lists (literal_lists (matrix (form f) (start next)))) (all_in_order (next + existentials (form f)) fs)
+
+-- ---- without a refusal no clause is too large
+
+abbrev pub IsSmall : Clause → Type 0
+IsSmall c = clause_symbols c ≤ 4096
+
+small_lists : (entry : ℕ) (cs : List Clause) → first_big entry cs ≡ None → AllByRecursion IsSmall cs
+small_lists entry [] h = tt
+small_lists entry (c ∷ cs) h = at (nat_lt 4096 (clause_symbols c)) refl h (small_lists entry cs)
+  where
+    at : (b : Bool) → nat_lt 4096 (clause_symbols c) ≡ b → (if b then Some (Big entry (min (clause_symbols c) 1000000)) else first_big entry cs) ≡ None → (first_big entry cs ≡ None → AllByRecursion IsSmall cs) → AllByRecursion IsSmall (c ∷ cs)
+    at true t k more = absurd (none-some (Big entry (min (clause_symbols c) 1000000)) (sym k))
+    at false t k more = (ltb-false 4096 (clause_symbols c) t, more k)
+
+no_refusal : (entry clauses symbols : ℕ) (f : Form) → form_refusal entry clauses symbols f ≡ None → first_big entry (clauses_of_form symbols f) ≡ None
+no_refusal entry clauses symbols f h = at (nat_lt 65536 (clauses + clause_count f)) (nat_lt 65536 (symbols + existentials f)) h
+  where
+    at : (many full : Bool) → at_tests entry clauses symbols f many full ≡ None → first_big entry (clauses_of_form symbols f) ≡ None
+    at true full k = absurd (none-some (Many entry) (sym k))
+    at false true k = absurd (none-some (Symbols entry) (sym k))
+    at false false k = k
+
+both_none : (r s : Option FormError) → option_or r s ≡ None → (r ≡ None) × (s ≡ None)
+both_none None s h = (refl, h)
+both_none (Some e) s h = absurd (none-some e (sym h))
+
+small_both : (cs ds : List Clause) → AllByRecursion IsSmall cs → AllByRecursion IsSmall ds → AllByRecursion IsSmall (cs ++ ds)
+small_both [] ds a b = b
+small_both (c ∷ cs) ds a b = (a.0, small_both cs ds a.1 b)
+
+pub all_small : (entry clauses symbols : ℕ) (fs : List Tree) → first_refusal entry clauses symbols fs ≡ None → AllByRecursion IsSmall (normal_form symbols fs)
+all_small entry clauses symbols [] h = tt
+all_small entry clauses symbols (f ∷ fs) h =
+    let q = both_none (form_refusal entry clauses symbols (form f)) (first_refusal (entry + 1) (clauses + clause_count (form f)) (symbols + existentials (form f)) fs) h in
+    small_both (clauses_of_form symbols (form f)) (normal_form (symbols + existentials (form f)) fs)
+    (small_lists entry (clauses_of_form symbols (form f)) (no_refusal entry clauses symbols (form f) q.0))
+    (all_small (entry + 1) (clauses + clause_count (form f)) (symbols + existentials (form f)) fs q.1)
+
+pub each_small : (cs : List Clause) → AllByRecursion IsSmall cs → (k : ℕ) (c : Clause) → slice_get cs k ≡ Some c → clause_symbols c ≤ 4096
+each_small [] h k c e = absurd (none-some c e)
+each_small (d ∷ cs) h zero c e = subst IsSmall (same_Some d c e) h.0
+each_small (d ∷ cs) h (suc k) c e = each_small cs h.1 k c e

@@ -12,8 +12,8 @@ use Rattle.formulas.specs.declared.tree.Tree.TheOpen as layer
 use Rattle.formulas.specs.declared.tree.Tree.TheViews.{roll-Tree}
 use Rattle.formulas.specs.declared.tree.Tree.TheFolds.{map-Tree, fold-roll-Tree, ind-Tree}
 use Rattle.formulas.specs.Negations.{Form, signed_form}
-use Rattle.normal_form.specs.Skolem.{is_member, free_variables, Place, skolem_arguments}
-use Rattle.normal_form.specs.Law.{free_step, is_free, bindings_step, bindings}
+use Rattle.normal_form.specs.Skolem.{free_variables, Place, skolem_arguments}
+use Rattle.formulas.specs.Bindings.{is_member, free_step, is_free, bindings_step, bindings}
 use Rattle.normal_form.specs.Occurring.{occurring_step, occurring}
 use Rattle.normal_form.proofs.Members.{member_flat_map}
 use Rattle.normal_form.proofs.Truths.{form-free}

@@ -14,54 +14,17 @@ use Rattle.formulas.specs.declared.tree.Tree.TheFolds.{map-Tree, fold-roll-Tree}
 use Rattle.formulas.specs.Trees.{foralls, exists}
 use Rattle.formulas.specs.Negations.{signed_form}
 use Rattle.normal_form.specs.declared.scope.Block.{Block}
-use Rattle.normal_form.specs.Skolem.{is_member, skolem_arguments}
-use Rattle.normal_form.specs.Law.{bindings_step, bindings, all_distinct}
+use Rattle.normal_form.specs.Skolem.{skolem_arguments}
+use Rattle.formulas.specs.BindingLaws.{bindings-foralls, bindings-exists}
+use Rattle.formulas.specs.Bindings.{is_member, bindings_step, bindings, all_distinct, numbers_from}
 use Rattle.normal_form.specs.Occurring.{occurring}
-use Rattle.normal_form.specs.Blocks.{has_variable, with_block, term_in, is_universal, numbers_from, scope_in, place_below, for_any, own_term}
+use Rattle.normal_form.specs.Blocks.{has_variable, with_block, term_in, is_universal, scope_in, place_below, for_any, own_term}
 use Rattle.normal_form.specs.Walking.{AreFresh, arguments_in}
 use Rattle.normal_form.proofs.Members.{member_left, member_right}
 use Rattle.normal_form.proofs.Separate.{Disjoint, parted, member_cases}
 use Rattle.normal_form.proofs.FreeOnes.{arguments-occurring}
 use Rattle.normal_form.proofs.BlockLemmas.{form-not_foralls, form-exists}
 use Rattle.normal_form.proofs.OccurringLemmas.{occurring-foralls, occurring-exists}
-
--- ---- the bindings of each case
-
-rolled : (t : Tree) (y : Tree-F Tree) → t ≡ roll-Tree y → bindings t ≡ bindings_step (map-Tree Tree (List ℕ) bindings y)
-rolled t y e = ap bindings e ∙ fold-roll-Tree (List ℕ) bindings_step y
-
-concat-map : (ts : List Tree) → concat (map bindings ts) ≡ flat_map bindings ts
-concat-map [] = refl
-concat-map (t ∷ ts) = ap (λ l. bindings t ++ l) (concat-map ts)
-
-pub bindings-Not : (t : Tree) → bindings (tree.Not t) ≡ bindings t
-bindings-Not t = rolled (tree.Not t) (layer.Not t) (sym (rolls-Not t))
-
-pub bindings-And : (ts : List Tree) → bindings (tree.And ts) ≡ flat_map bindings ts
-bindings-And ts = rolled (tree.And ts) (layer.And ts) (sym (rolls-And ts)) ∙ concat-map ts
-
-pub bindings-Or : (ts : List Tree) → bindings (tree.Or ts) ≡ flat_map bindings ts
-bindings-Or ts = rolled (tree.Or ts) (layer.Or ts) (sym (rolls-Or ts)) ∙ concat-map ts
-
-pub bindings-Implies : (t u : Tree) → bindings (tree.Implies t u) ≡ bindings t ++ bindings u
-bindings-Implies t u = rolled (tree.Implies t u) (layer.Implies t u) (sym (rolls-Implies t u))
-
-pub bindings-Equiv : (t u : Tree) → bindings (tree.Equiv t u) ≡ bindings t ++ bindings u
-bindings-Equiv t u = rolled (tree.Equiv t u) (layer.Equiv t u) (sym (rolls-Equiv t u))
-
-bindings-Forall : (x : ℕ) (t : Tree) → bindings (tree.Forall x t) ≡ x ∷ bindings t
-bindings-Forall x t = rolled (tree.Forall x t) (layer.Forall x t) (sym (rolls-Forall x t))
-
-bindings-Exists : (x : ℕ) (t : Tree) → bindings (tree.Exists x t) ≡ x ∷ bindings t
-bindings-Exists x t = rolled (tree.Exists x t) (layer.Exists x t) (sym (rolls-Exists x t))
-
-pub bindings-foralls : (first count : ℕ) (t : Tree) → bindings (foralls first count t) ≡ numbers_from first count ++ bindings t
-bindings-foralls first zero t = refl
-bindings-foralls first (suc count) t = bindings-Forall first (foralls (suc first) count t) ∙ ap (λ vs. first ∷ vs) (bindings-foralls (suc first) count t)
-
-pub bindings-exists : (first count : ℕ) (t : Tree) → bindings (exists first count t) ≡ numbers_from first count ++ bindings t
-bindings-exists first zero t = refl
-bindings-exists first (suc count) t = bindings-Exists first (exists (suc first) count t) ∙ ap (λ vs. first ∷ vs) (bindings-exists (suc first) count t)
 
 -- ---- parts
 

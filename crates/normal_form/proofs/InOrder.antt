@@ -11,7 +11,7 @@ use Rattle.spl_terms.specs.Terms.{term_variables}
 use Rattle.spl_terms.specs.Clauses.{atom_variables, clause_variables, is_of_sort, noted, firsts, place_in, number_in, at_lists, distinct, replace_in_atom, in_order}
 use Rattle.spl_terms.specs.TermLaws.{Each, term_induction}
 use Rattle.spl_terms.specs.TermLaws.{term_variables-Var, term_variables-App}
-use Rattle.normal_form.specs.Skolem.{is_member}
+use Rattle.formulas.specs.Bindings.{is_member}
 use Rattle.normal_form.specs.Clausal.{Literal, stands_right, stands_left, stands_in_constraint, atoms_where, clause_from}
 use Rattle.normal_form.specs.Structures.{Structure, IsAssignment, value, holds_in, clause_truth}
 use Rattle.normal_form.proofs.Members.{member_left, member_right, member_self}

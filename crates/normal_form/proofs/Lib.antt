@@ -26,3 +26,6 @@ pub mod Found
 pub mod Listed
 pub mod Formed
 pub mod OfSymbols
+pub mod FiledOnes
+pub mod Marked
+pub mod Whole

@@ -6,7 +6,8 @@ use Rattle.spl_terms.specs.declared.term.Term.{Term, Var}
 use Rattle.spl_terms.specs.Terms.{term_variables}
 use Rattle.spl_terms.specs.TermLaws.{term_variables-Var, term_variables-App}
 use Rattle.formulas.specs.Negations.{Form, both, either, for_all, for_some}
-use Rattle.normal_form.specs.Skolem.{is_member, all_but, free_variables, Place, behind, set_to, with_variable, skolem_arguments, skolem_symbol, skolem_term, with_skolem}
+use Rattle.normal_form.specs.Skolem.{all_but, free_variables, Place, behind, set_to, with_variable, skolem_arguments, skolem_symbol, skolem_term, with_skolem}
+use Rattle.formulas.specs.Bindings.{is_member}
 use Rattle.formulas.specs.Counts.{existentials}
 use Rattle.normal_form.specs.Law.{is_old_term}
 use Rattle.normal_form.proofs.Members.{member_left, member_right, member_self, member_filter, filter_member, member_all}

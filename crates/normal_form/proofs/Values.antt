@@ -11,7 +11,7 @@ use Rattle.spl_terms.specs.Terms.{term_variables, replace}
 use Rattle.spl_terms.specs.Clauses.{atom_variables, replace_in_atom}
 use Rattle.spl_terms.specs.TermLaws.{Each, term_induction, fold-Var, fold-App}
 use Rattle.spl_terms.specs.TermLaws.{term_variables-Var, term_variables-App, replace-Var, replace-App}
-use Rattle.normal_form.specs.Skolem.{is_member}
+use Rattle.formulas.specs.Bindings.{is_member}
 use Rattle.normal_form.specs.Structures.{Structure, IsAssignment, value_step, value, holds_in, IsExpansion}
 use Rattle.normal_form.specs.Law.{old_term_step, is_old_term, is_old_atom}
 use Rattle.normal_form.proofs.Members.{member_left, member_right, member_self}

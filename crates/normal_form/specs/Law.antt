@@ -7,28 +7,12 @@ use Rattle.spl_terms.specs.declared.atom.Atom.{Atom}
 use Rattle.spl_terms.specs.Clauses.{atom_terms, atom_variables}
 use Rattle.formulas.specs.declared.tree.Tree.{Tree, Tree-F, fold-Tree}
 use Rattle.formulas.specs.declared.tree.Tree.TheOpen as layer
-use Rattle.normal_form.specs.Skolem.{is_member}
+use Rattle.formulas.specs.Bindings.{is_member, is_free, bindings, all_distinct}
 use Rattle.formulas.specs.AtomTests.{all_atoms}
 use Rattle.formulas.specs.Negations.{Form}
 use Rattle.formulas.specs.Counts.{clause_count}
 use Rattle.normal_form.specs.NormalForm.{clauses_of_form, normal_form}
 use Rattle.normal_form.specs.Structures.{StandFor}
-
-abbrev pub free_step : ℕ → Tree-F Bool → Bool
-free_step v layer.True = false
-free_step v layer.False = false
-free_step v (layer.Atom a) = is_member v (atom_variables a)
-free_step v (layer.Not b) = b
-free_step v (layer.And bs) = list_any (λ b. b) bs
-free_step v (layer.Or bs) = list_any (λ b. b) bs
-free_step v (layer.Implies b c) = b || c
-free_step v (layer.Equiv b c) = b || c
-free_step v (layer.Forall x b) = not (v == x) && b
-free_step v (layer.Exists x b) = not (v == x) && b
-
--- whether the variable is free in the formula
-abbrev pub is_free : ℕ → Tree → Bool
-is_free v = fold-Tree Bool (free_step v)
 
 abbrev pub old_term_step : ℕ → Term-F Bool → Bool
 old_term_step next (term_layer.Var v) = true
@@ -44,27 +28,6 @@ is_old_atom next a = list_all (is_old_term next) (atom_terms a)
 -- whether each function of the formula has a smaller number
 abbrev pub is_old : ℕ → Tree → Bool
 is_old next = all_atoms (is_old_atom next)
-
-abbrev pub bindings_step : Tree-F (List ℕ) → List ℕ
-bindings_step layer.True = []
-bindings_step layer.False = []
-bindings_step (layer.Atom a) = []
-bindings_step (layer.Not vs) = vs
-bindings_step (layer.And lists) = concat lists
-bindings_step (layer.Or lists) = concat lists
-bindings_step (layer.Implies vs ws) = vs ++ ws
-bindings_step (layer.Equiv vs ws) = vs ++ ws
-bindings_step (layer.Forall x vs) = x ∷ vs
-bindings_step (layer.Exists x vs) = x ∷ vs
-
--- the numbers of the formula's bindings, in order
-abbrev pub bindings : Tree → List ℕ
-bindings = fold-Tree (List ℕ) bindings_step
-
--- whether no number stands twice in the list
-abbrev pub all_distinct : List ℕ → Bool
-all_distinct [] = true
-all_distinct (v ∷ vs) = not (is_member v vs) && all_distinct vs
 
 -- no variable is free in the formula, no two bindings have one number, and its functions have smaller numbers than the Skolem
 -- symbols

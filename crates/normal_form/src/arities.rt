@@ -4,9 +4,9 @@ ghost use Rattle.std.specs.Prelude.{◌≡◌, ◌∷◌, ◌++◌, ◌+◌, ◌
 ghost use Rattle.std.specs.List.{flat_map};
 ghost use Rattle.formulas.specs.Negations.{signed_form};
 ghost use Rattle.formulas.specs.Counts.{existentials};
-ghost use Rattle.normal_form.specs.Blocks.{place_below, numbers_from, for_each, for_any, universal_block, existential_block};
+ghost use Rattle.normal_form.specs.Blocks.{place_below, for_each, for_any, universal_block, existential_block};
+ghost use Rattle.formulas.specs.Bindings.{numbers_from, bindings};
 ghost use Rattle.normal_form.specs.Skolem.{skolem_arguments};
-ghost use Rattle.normal_form.specs.Law.{bindings};
 ghost use Rattle.normal_form.specs.Walking.{AreFresh, skolem_count, one_of, agreement, difference};
 ghost use Rattle.normal_form.specs.Listing.{forms_of, Lists, ListsAll};
 

@@ -4,7 +4,7 @@ ghost use Rattle.std.specs.Prelude.{◌≡◌, true, Some, slice_get, IfOk};
 ghost use Rattle.spl_terms.specs.declared.clause.Clause.{Clause};
 ghost use Rattle.spl_terms.specs.Clauses.{clause_symbols, in_order, FitsOrBig};
 ghost use Rattle.formulas.specs.Negations.{signed_form};
-ghost use Rattle.normal_form.specs.Law.{bindings, all_distinct};
+ghost use Rattle.formulas.specs.Bindings.{bindings, all_distinct};
 ghost use Rattle.normal_form.specs.NormalForm.{clauses_of_form};
 ghost use Rattle.normal_form.specs.Walking.{CanAdd};
 

@@ -8,7 +8,7 @@ ghost use Rattle.formulas.specs.Counts.{clause_count, existentials};
 ghost use Rattle.formulas.specs.Entries.{stands, entry_formula};
 ghost use Rattle.normal_form.specs.Choices.{arities};
 ghost use Rattle.normal_form.specs.ClauseSets.{first_big, form_refusal, first_refusal, IsRefused, HasFormed, HasFormedAll, IsWithinLimits};
-ghost use Rattle.normal_form.specs.Law.{bindings, all_distinct};
+ghost use Rattle.formulas.specs.Bindings.{bindings, all_distinct};
 ghost use Rattle.normal_form.specs.NormalForm.{clauses_of_form};
 ghost use Rattle.normal_form.specs.Skolem.{start};
 
@@ -182,6 +182,7 @@ pub fn form_all(forming: &mut Forming, alloc: Global, entries: &[Entry]) -> Resu
     requires few { length entries.now < 2 ^ 32 }
     requires different { (e : Entry) → Contains entries.now e → all_distinct (bindings e.formula) ≡ true }
     ensures formed { OnOk result (HasFormedAll forming.old forming.new (map entry_formula entries.now)) }
+    ensures limits { OnOk result (IsWithinLimits forming.new) }
     ensures refused { IsRefused (first_refusal 1 (length forming.old.clauses) (length forming.old.signature)
         (map entry_formula entries.now)) result }
 {

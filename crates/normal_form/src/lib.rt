@@ -5,6 +5,7 @@
 mod arities;
 mod clause;
 mod error;
+mod filed;
 mod forming;
 mod gathering;
 mod laws;

@@ -1,14 +1,17 @@
 //! The clause set of a problem.
 
-ghost use Rattle.std.specs.Prelude.{◌≡◌, ◌<◌, ◌^◌, ℕ, true, length, map, IfOk, Contains};
+ghost use Rattle.std.specs.Prelude.{◌≡◌, ◌<◌, ◌≤◌, ◌^◌, ℕ, true, Some, length, map, slice_get, IfOk, Contains};
 ghost use Rattle.std.specs.List.{AllByRecursion};
+ghost use Rattle.spl_terms.specs.declared.clause.Clause.{Clause};
+ghost use Rattle.spl_terms.specs.Clauses.{clause_symbols};
 ghost use Rattle.spl_terms.specs.InOrder.{IsInOrder};
 ghost use Rattle.spl_symbols.specs.Skolems.{HasSkolems};
 ghost use Rattle.formulas.specs.declared.entry.Entry.{Entry};
 ghost use Rattle.formulas.specs.declared.tree.Tree.{Tree};
 ghost use Rattle.formulas.specs.Entries.{entry_formula};
 ghost use Rattle.normal_form.specs.ClauseSets.{all_arities, origins_from, first_refusal, IsRefused};
-ghost use Rattle.normal_form.specs.Law.{bindings, all_distinct, IsFormula};
+ghost use Rattle.normal_form.specs.Law.{IsFormula};
+ghost use Rattle.formulas.specs.Bindings.{bindings, all_distinct};
 ghost use Rattle.normal_form.specs.NormalForm.{normal_form};
 ghost use Rattle.normal_form.specs.OfSignature.{AreOfSignature, AreClausesOf};
 ghost use Rattle.normal_form.specs.Structures.{StandFor};
@@ -44,13 +47,15 @@ pub fn clauses_of(
     signature: Signature,
     entries: Items<Entry>,
 ) -> Result<ClauseSet, FormError>
-    requires few { length entries < 2 ^ 32 }
+    requires numbered { length entries < 2 ^ 32 }
     requires different { (e : Entry) → Contains entries e → all_distinct (bindings e.formula) ≡ true }
     ensures clauses { IfOk result (λ set. set.clauses ≡ normal_form (length signature) (map entry_formula entries)) }
     ensures symbols { IfOk result (λ set. (next : ℕ)
         × HasSkolems signature 1 (all_arities (length signature) (map entry_formula entries)) set.signature next) }
     ensures origins { IfOk result (λ set. set.origins ≡ origins_from 1 (map entry_formula entries)) }
     ensures refused { IsRefused (first_refusal 1 0 (length signature) (map entry_formula entries)) result }
+    ensures few { IfOk result (λ set. length set.clauses ≤ 65536) }
+    ensures small { IfOk result (λ set. (k : ℕ) (c : Clause) → slice_get set.clauses k ≡ Some c → clause_symbols c ≤ 4096) }
     ensures ordered { IfOk result (λ set. AllByRecursion IsInOrder set.clauses) }
     ensures of_signature { AreOfSignature signature entries → IfOk result (λ set. AreClausesOf set.signature set.clauses) }
     ensures stand { ((f : Tree) → Contains (map entry_formula entries) f → IsFormula (length signature) f)

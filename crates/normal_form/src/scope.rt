@@ -1,9 +1,9 @@
 //! The quantifiers in whose scope a part of a formula stands, and atoms with the Skolem terms in place.
 
-ghost use Rattle.std.specs.Prelude.{◌≡◌, ◌-◌, true, map, IfOk, MatchOption};
+ghost use Rattle.std.specs.Prelude.{◌≡◌, ◌-◌, true, min, sum, map, IfOk, MatchOption};
 ghost use Rattle.spl_terms.specs.declared.term.Term.{Var};
-ghost use Rattle.spl_terms.specs.Terms.{replace};
-ghost use Rattle.spl_terms.specs.Clauses.{replace_in_atom};
+ghost use Rattle.spl_terms.specs.Terms.{replace, term_symbols};
+ghost use Rattle.spl_terms.specs.Clauses.{replace_in_atom, atom_symbols};
 ghost use Rattle.normal_form.specs.Blocks.{has_variable, arity_of, skolem_at, own_term, term_in};
 
 use spl_terms::{Atom, Items, Kind, Symbol, Term};
@@ -155,5 +155,53 @@ pub fn atom_instance(alloc: Global, blocks: &[Block], atom: &Atom) -> Result<Ato
             instance(alloc, blocks, left)?,
             instance(alloc, blocks, right)?,
         )),
+    }
+}
+
+// ---- sizes
+
+/// How many symbols the term that stands for a variable has, or the last value of `u64`.
+fn variable_symbols(blocks: &[Block], variable: u32) -> u64
+    ensures { result ≡ min (term_symbols (term_in blocks.now variable)) 18446744073709551615 }
+{
+    match term_of(blocks, variable) {
+        None => 1,
+        Some((terms, _)) => (terms.args.len() as u64).saturating_add(1),
+    }
+}
+
+/// How many symbols the term has with Skolem terms in place, or the last value of `u64`.
+#[cycle(size)]
+#[tactic(auto, using(crate::proofs::Terms::size_laws))]
+fn instance_symbols(blocks: &[Block], term: &Term) -> u64
+    ensures { result ≡ min (term_symbols (replace (term_in blocks.now) term.now)) 18446744073709551615 }
+{
+    match term {
+        Term::Var(variable) => variable_symbols(blocks, *variable),
+        Term::App(_, args) => instances_symbols(blocks, args.as_slice()).saturating_add(1),
+    }
+}
+
+#[cycle(size)]
+#[tactic(auto, using(crate::proofs::Terms::size_laws))]
+fn instances_symbols(blocks: &[Block], terms: &[Term]) -> u64
+    ensures { result ≡ min (sum (map term_symbols (map (replace (term_in blocks.now)) terms.now))) 18446744073709551615 }
+{
+    let mut count: u64 = 0;
+    for term in terms {
+        count = count.saturating_add(instance_symbols(blocks, term));
+    }
+    count
+}
+
+/// How many symbols the atom has with Skolem terms in place, or the last value of `u64`; nothing is made.
+pub fn atom_instance_symbols(blocks: &[Block], atom: &Atom) -> u64
+    ensures { result ≡ min (atom_symbols (replace_in_atom (term_in blocks.now) atom.now)) 18446744073709551615 }
+{
+    match atom {
+        Atom::Holds(_, args) => instances_symbols(blocks, args.as_slice()).saturating_add(1),
+        Atom::Equal(left, right) => instance_symbols(blocks, left)
+            .saturating_add(instance_symbols(blocks, right))
+            .saturating_add(1),
     }
 }

@@ -5,14 +5,14 @@ ghost use Rattle.std.specs.Prelude.{◌≡◌, ◌∷◌, ◌++◌, [], ◌<◌,
 ghost use Rattle.formulas.specs.Negations.{signed_form, all_of, some_hold};
 ghost use Rattle.formulas.specs.Counts.{form_count, clause_count};
 ghost use Rattle.normal_form.specs.declared.scope.Block.{Block};
-ghost use Rattle.normal_form.specs.Blocks.{place_below, term_in, numbers_from, for_each, for_any, universal_block, existential_block};
+ghost use Rattle.normal_form.specs.Blocks.{place_below, term_in, for_each, for_any, universal_block, existential_block};
+ghost use Rattle.formulas.specs.Bindings.{numbers_from, bindings};
 ghost use Rattle.normal_form.specs.Gathering.{with_signed_atom, IsGathered};
 ghost use Rattle.spl_terms.specs.Clauses.{IsEmpty, replace_in_atom};
 ghost use Rattle.normal_form.specs.Walking.{CanAdd, AreFresh, one_of, both_of, agreement, difference, AddsChosen};
-ghost use Rattle.normal_form.specs.Law.{bindings};
 
 use crate::gathering::Gathering;
-use crate::scope::{Block, atom_instance};
+use crate::scope::{Block, atom_instance, atom_instance_symbols};
 use crate::scoping::skolem_block;
 use crate::stop::Stop;
 use formulas::{Case, Count, Formula};
@@ -59,12 +59,15 @@ fn count_either(left: &Formula, left_sign: bool, right: &Formula, right_sign: bo
     count(left, left_sign).either(count(right, right_sign))
 }
 
-/// Adds an atom, with the terms of its scopes, as a literal.
+/// Adds an atom, with the terms of its scopes, as a literal; one of more than 1,000,000 symbols isn't made.
 fn add_atom(walk: &mut Walk, atom: &Atom, sign: bool) -> Result<(), Stop>
     ensures added { IsGathered (with_signed_atom walk.old.clause
         (record { sign = sign; atom = replace_in_atom (term_in walk.old.scopes) atom.now })) walk.new.clause result }
     ensures kept { walk.new.scopes ≡ walk.old.scopes }
 {
+    if atom_instance_symbols(walk.scopes.as_slice(), atom) > 1_000_000 {
+        return Err(Stop::Huge);
+    }
     match atom_instance(walk.alloc, walk.scopes.as_slice(), atom) {
         Ok(atom) => walk.clause.add(sign, atom),
         Err(_) => Err(Stop::Memory),

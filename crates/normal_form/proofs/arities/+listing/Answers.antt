@@ -8,11 +8,12 @@ use Rattle.normal_form.specs.Skolem.{Place, behind, skolem_arguments}
 use Rattle.normal_form.specs.Blocks.{place_below, for_any, with_skolems, universal_block, existential_block}
 use Rattle.normal_form.specs.Listing.{forms_of, arities_in, Lists}
 use Rattle.normal_form.specs.Walking.{AreFresh, skolem_count}
-use Rattle.normal_form.specs.Law.{bindings}
+use Rattle.formulas.specs.Bindings.{bindings}
 use Rattle.normal_form.specs.declared.scope.Block.{Block}
 use Rattle.normal_form.specs.declared.arities.Listing.{Listing}
 use Rattle.normal_form.proofs.BlockLemmas.{form-foralls, form-not_foralls, form-exists, form-not_exists, place-universal, place-existential}
-use Rattle.normal_form.proofs.Freshness.{bindings-Not, bindings-And, bindings-Or, bindings-Implies, bindings-Equiv, bindings-foralls, bindings-exists, fresh_left, fresh_right, fresh_part, fresh_behind}
+use Rattle.formulas.specs.BindingLaws.{bindings-Not, bindings-And, bindings-Or, bindings-Implies, bindings-Equiv, bindings-foralls, bindings-exists}
+use Rattle.normal_form.proofs.Freshness.{fresh_left, fresh_right, fresh_part, fresh_behind}
 use Rattle.normal_form.proofs.Walks.{skolems-for_each, skolems-for_any}
 use Rattle.normal_form.proofs.Found.{left_parts, element_most, drop_past, popped}
 use Rattle.normal_form.proofs.Listed.{none_listed, listed_for_each, listed_for_any, skolems_connected, lists_nothing, lists_connected, lists_two, two_listed}

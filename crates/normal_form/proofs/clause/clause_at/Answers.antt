@@ -3,7 +3,7 @@ use Rattle.std.proofs.lemmas.Option.{same_Some}
 use Rattle.std.proofs.lemmas.Result.{IfOk-weaker}
 use Rattle.spl_terms.specs.Clauses.{clause_symbols, in_order, FitsOrBig}
 use Rattle.formulas.specs.Negations.{Form, signed_form}
-use Rattle.normal_form.specs.Law.{bindings}
+use Rattle.formulas.specs.Bindings.{bindings}
 use Rattle.normal_form.specs.Skolem.{start}
 use Rattle.normal_form.specs.Choices.{literals_chosen}
 use Rattle.normal_form.specs.Clausal.{clause_from}

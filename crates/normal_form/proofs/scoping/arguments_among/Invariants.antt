@@ -1,8 +1,8 @@
 use Rattle.std.proofs.Common.{◌≡◌, take}
 use Rattle.std.specs.List.{filter}
-use Rattle.normal_form.specs.Skolem.{is_member}
 use Rattle.normal_form.specs.Blocks.{scope_in}
+use Rattle.normal_form.specs.Marking.{is_marked}
 use Rattle.normal_form.proofs.scoping.arguments_among.Given as goal
 
 abbrev pub invariant-loop-block : goal.invariant-loop-block
-invariant-loop-block l = l.found ≡ filter (λ u. is_member u l.standing) (scope_in (take l.block-index l.blocks))
+invariant-loop-block l = l.found ≡ filter (is_marked l.marks) (scope_in (take l.block-index l.blocks))

@@ -8,8 +8,9 @@ use Rattle.normal_form.specs.Blocks.{place_below, universal_block, existential_b
 use Rattle.normal_form.proofs.BlockLemmas.{form-foralls, form-not_foralls, form-exists, form-not_exists, place-universal, place-existential, chosen-for_each, chosen-for_any}
 use Rattle.normal_form.specs.Gathering.{gathered, IsGathered}
 use Rattle.normal_form.specs.Walking.{CanAdd, AreFresh}
-use Rattle.normal_form.specs.Law.{bindings}
-use Rattle.normal_form.proofs.Freshness.{bindings-Not, bindings-And, bindings-Or, bindings-Implies, bindings-Equiv, bindings-foralls, bindings-exists, fresh_left, fresh_right, fresh_part, fresh_behind}
+use Rattle.formulas.specs.Bindings.{bindings}
+use Rattle.formulas.specs.BindingLaws.{bindings-Not, bindings-And, bindings-Or, bindings-Implies, bindings-Equiv, bindings-foralls, bindings-exists}
+use Rattle.normal_form.proofs.Freshness.{fresh_left, fresh_right, fresh_part, fresh_behind}
 use Rattle.normal_form.specs.declared.scope.Block.{Block}
 use Rattle.normal_form.proofs.Walks.{can_left, can_right, can_universal, can_existential, exact_clauses, exact_skolems}
 use Rattle.normal_form.specs.Listing.{forms_of}
