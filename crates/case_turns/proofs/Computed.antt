@@ -1,5 +1,5 @@
 -- A batch that was computed from the journal as it is: it is neither dropped nor to be computed anew.
-use Rattle.std.proofs.Common.{◌≡◌, ◌⊎◌, inl, inr, ℕ, ◌≤◌, Bool, false, if◌then◌else◌, List, [], ◌++◌, map, Option, Some, None, refl, ◌∙◌, ap, subst, arith}
+use Rattle.std.proofs.Common.{◌≡◌, ◌⊎◌, inl, inr, ℕ, ◌≤◌, Bool, false, if◌then◌else◌, List, ◌++◌, map, Option, Some, None, refl, ◌∙◌, ap, subst, arith}
 use Rattle.std.specs.Prelude.{IsSome}
 use Rattle.proof_steps.specs.declared.step.Line.{Line}
 use Rattle.case_journal.specs.declared.event.Entry.{Entry}

@@ -1,7 +1,7 @@
-//! Examples of two workers that share a table, each in its turns on one thread. A row of standard input has numbers and the
-//! clauses: how many clauses may be split; how many rounds the first worker makes alone; how many it makes at its own case
-//! once both have one; how many the second worker makes between the first one's view and its turn; and how many the first one
-//! makes afterwards. Printed are the row, the first one's batch, what became of it, and the journal.
+//! Examples of two workers that share a table, each in its turns on one thread. A row of standard input has numbers and
+//! the clauses: how many clauses may be split; how many rounds the first worker makes alone; how many it makes at its own
+//! case once both have one; how many the second worker makes between the first one's view and its turn; and how many the
+//! first one makes afterwards. Printed are the row, the first one's batch, what became of it, and the journal.
 #![tactic(auto)]
 
 mod showing;
