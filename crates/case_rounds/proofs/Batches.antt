@@ -34,7 +34,7 @@ use Rattle.case_view.specs.Views.{keep, kept_line, owner_on, path_nodes, path_si
 use Rattle.case_rounds.specs.declared.round.Batch.{Batch}
 use Rattle.case_rounds.specs.Rounds.{IsLarge, IsPremiseOf, IsPairOf, IsLineOf, AreLinesOf, IsCoveredIn, IsBigOf, IsWorkedOffOf, IsFinishOf}
 use Rattle.case_rounds.specs.Events.{publication_of, AreLastOf, AreEventsOf, IsBatchOf, AreOver, AreAllOver}
-use Rattle.case_rounds.specs.Appending.{IsFinishAt, publication_at, AreLastAt, IsReady}
+use Rattle.case_rounds.specs.Appending.{IsFinishAt, publication_at, AreLastAt, IsBatchReady}
 use Rattle.case_rounds.specs.InLaws.{in_either, in_one, in_mapped}
 
 two_parents : (m n base : ℕ) → m ≤ base → n ≤ base → (j x : ℕ) → slice_get (m ∷ n ∷ []) j ≡ Some x → x ≤ base
@@ -281,7 +281,7 @@ module _ (s : Setting) (past : List Entry) (v : Case) (given : Kept) (is_given :
   publication_is is owners l = ap (λ n. Publish n (l ∷ []) false) ((λ i. owner_on (is.nodes i) (is.path i) l.stated.deps) ∙ sym (owners l.stated.deps))
 
   pub ready : IsCaseOf s past v → ((deps : List Assumption) → owner past deps v.node ≡ owner_on (path_nodes past v.node) (path_sides past v.node) deps) → IsLegalJournal s past → IsSinceChoice s past v.worker v.node
-      → ((lines : List Line) → IsBatch s past v.worker v.node lines → IsUnderWay s past past v.worker v.node lines 0) → (b : Batch) → IsBatchOf s.limits.splits v b → IsReady s past v.worker v.node b
+      → ((lines : List Line) → IsBatch s past v.worker v.node lines → IsUnderWay s past past v.worker v.node lines 0) → (b : Batch) → IsBatchOf s.limits.splits v b → IsBatchReady s past v.worker v.node b
   ready is owners legal since starts b h = record {
     lines = h.lines;
     finish = h.finish;

@@ -18,7 +18,7 @@ use Rattle.case_view.specs.declared.kept.Case.{Case}
 use Rattle.case_rounds.specs.declared.halt.Halt.{Halt}
 use Rattle.case_rounds.specs.declared.halt.Halt.TheVariants as halts
 use Rattle.case_view.specs.Views.{IsIn, IsOrdered, IsPartnerOf}
-use Rattle.case_rounds.specs.Rounds.{Extends, IsInference, HasAll, IsStopOf, IsPremiseOf, IsPremiseAt, IsPairOf, IsLineOf, AreLinesOf, IsRound, IsAmong, IsCoveredIn, Covers, IsHaltOf}
+use Rattle.case_rounds.specs.Rounds.{Extends, IsResolvent, HasAll, IsStopOf, IsPremiseOf, IsPremiseAt, IsPairOf, IsLineOf, AreLinesOf, IsRound, IsListedOrStated, IsCoveredIn, Covers, IsHaltOf}
 use Rattle.case_rounds.proofs.Places.{made}
 use Rattle.case_rounds.specs.InLaws.{in_either, in_one}
 use Rattle.case_rounds.proofs.Rows.{in_right, stated_in}
@@ -34,7 +34,7 @@ extends_more a b c f g = record { more = f.more ++ g.more; is = g.is ∙ (ap (λ
 pub extends_one : (old new : List Line) (l : Line) → new ≡ old ++ l ∷ [] → Extends old new
 extends_one old new l is = record { more = l ∷ []; is = is }
 
-among_extends : (v : Case) (a b : List Line) (c : Clause) → Extends a b → IsAmong v a c → IsAmong v b c
+among_extends : (v : Case) (a b : List Line) (c : Clause) → Extends a b → IsListedOrStated v a c → IsListedOrStated v b c
 among_extends v a b c f (inl h) = inl h
 among_extends v a b c f (inr h) = inr (record { place = h.place; line = h.line; found = subst (λ xs. slice_get xs h.place ≡ Some h.line) (sym f.is) (get_more a f.more h.place h.line h.found); is = h.is })
 
@@ -238,8 +238,8 @@ all_pairs v lines given places n is long tried all p q pair = elim pair.one [
 
 -- ---- inferences with the given clause
 
-pub line_first : (v : Case) (given other : Kept) (l : Line) → v.given ≡ Some given → IsPremiseOf v other → IsInference given other l → IsLineOf v l
+pub line_first : (v : Case) (given other : Kept) (l : Line) → v.given ≡ Some given → IsPremiseOf v other → IsResolvent given other l → IsLineOf v l
 line_first v given other l is involved h = record { first = given; second = other; pair = record { left = inl is; right = involved; one = inl is }; inference = h }
 
-pub line_second : (v : Case) (given other : Kept) (l : Line) → v.given ≡ Some given → IsPremiseOf v other → IsInference other given l → IsLineOf v l
+pub line_second : (v : Case) (given other : Kept) (l : Line) → v.given ≡ Some given → IsPremiseOf v other → IsResolvent other given l → IsLineOf v l
 line_second v given other l is involved h = record { first = other; second = given; pair = record { left = involved; right = inl is; one = inr is }; inference = h }

@@ -15,7 +15,7 @@ use Rattle.case_journal.specs.ListLaws.{get_more, get_right}
 use Rattle.journal_laws.specs.Batches.{IsStated}
 use Rattle.case_view.specs.declared.kept.Kept.{Kept}
 use Rattle.case_view.specs.Views.{IsIn, conclusion_of}
-use Rattle.case_rounds.specs.Rounds.{IsInference, AreInferences, Infers, HasAt, IsLarge}
+use Rattle.case_rounds.specs.Rounds.{IsResolvent, AreInferences, Infers, HasAt, IsLarge}
 use Rattle.case_rounds.proofs.Places.{made}
 
 -- ---- items of a longer list
@@ -46,8 +46,8 @@ has_more p q i part j a b f h s e =
     let t = h s e in
     record { place = t.place; line = t.line; found = subst (λ xs. slice_get xs t.place ≡ Some t.line) (sym f.is) (get_more a f.more t.place t.line t.found); is = t.is }
 
-pub infers_one : (p q : Kept) (old new : List Line) (l : Line) → new ≡ old ++ l ∷ [] → IsInference p q l → Infers p q old new
-infers_one p q old new l is h = record { more = l ∷ []; is = is; each = λ x at. subst (IsInference p q) (in_one l x at) h }
+pub infers_one : (p q : Kept) (old new : List Line) (l : Line) → new ≡ old ++ l ∷ [] → IsResolvent p q l → Infers p q old new
+infers_one p q old new l is h = record { more = l ∷ []; is = is; each = λ x at. subst (IsResolvent p q) (in_one l x at) h }
 
 pub has_one : (p q : Kept) (i : ℕ) (part : Part) (j : ℕ) (old new : List Line) (l : Line) → new ≡ old ++ l ∷ [] → conclusion_of i part j p q ≡ Some l.stated → HasAt new p q i part j
 has_one p q i part j old new l is made s e =

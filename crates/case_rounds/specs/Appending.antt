@@ -61,7 +61,7 @@ AreLastAt past m (finishes.Split parts) last = IsSplitOfChosen past m parts last
 AreLastAt past m finishes.Activate last = last ≡ Activate m ∷ []
 
 -- the batch was made over an earlier journal of the worker's case, and none of it has been appended; its steps follow from those that were there
-pub record IsReady (s : Setting) (past : List Entry) (w m : ℕ) (b : Batch) : Type 0 where
+pub record IsBatchReady (s : Setting) (past : List Entry) (w m : ℕ) (b : Batch) : Type 0 where
   pub lines : List Line
   pub finish : Finish
   pub can : CanAppend s past w m lines finish

@@ -26,7 +26,7 @@ pub record Extends (old new : List Line) : Type 0 where
 -- ---- inferences of two clauses
 
 -- the line states what resolution concludes from them at some places
-pub record IsInference (p q : Kept) (l : Line) : Type 0 where
+pub record IsResolvent (p q : Kept) (l : Line) : Type 0 where
   pub i : ℕ
   pub part : Part
   pub j : ℕ
@@ -35,7 +35,7 @@ pub record IsInference (p q : Kept) (l : Line) : Type 0 where
   pub small : clause_symbols l.stated.clause ≤ 4096
 
 abbrev pub AreInferences : Kept → Kept → List Line → Type 0
-AreInferences p q lines = (l : Line) → IsIn lines l → IsInference p q l
+AreInferences p q lines = (l : Line) → IsIn lines l → IsResolvent p q l
 
 -- inferences of the two were added at the end
 pub record Infers (p q : Kept) (old new : List Line) : Type 0 where
@@ -88,7 +88,7 @@ pub record IsLineOf (v : Case) (l : Line) : Type 0 where
   pub first : Kept
   pub second : Kept
   pub pair : IsPairOf v first second
-  pub inference : IsInference first second l
+  pub inference : IsResolvent first second l
 
 -- the lines resolve such pairs, state no variant of a listed clause nor of a line before, and all but the last are clauses with atoms
 pub record AreLinesOf (v : Case) (lines : List Line) : Type 0 where
@@ -105,11 +105,11 @@ pub record IsRound (v : Case) (lines : List Line) : Type 0 where
 -- ---- what they cover
 
 -- listed, or stated by one of the lines
-abbrev pub IsAmong : Case → List Line → Clause → Type 0
-IsAmong v lines c = ((k : Kept) × IsIn v.listed k × (k.stated.clause ≡ c)) ⊎ IsStated lines c
+abbrev pub IsListedOrStated : Case → List Line → Clause → Type 0
+IsListedOrStated v lines c = ((k : Kept) × IsIn v.listed k × (k.stated.clause ≡ c)) ⊎ IsStated lines c
 
 abbrev pub IsCoveredIn : Case → List Line → Clause → Type 0
-IsCoveredIn v lines c = IsCoveredBy (IsAmong v lines) c
+IsCoveredIn v lines c = IsCoveredBy (IsListedOrStated v lines) c
 
 -- whatever is concluded from the two is covered
 abbrev pub Covers : Case → List Line → Kept → Kept → Type 0

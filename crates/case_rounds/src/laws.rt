@@ -10,7 +10,7 @@ ghost use Rattle.case_view.specs.declared.kept.Case.{Case};
 ghost use Rattle.case_view.specs.Views.{StandsFor};
 ghost use Rattle.case_rounds.specs.declared.round.Batch.{Batch};
 ghost use Rattle.case_rounds.specs.Events.{AreAllOver, IsBatchOf, shifted_event};
-ghost use Rattle.case_rounds.specs.Appending.{IsReady};
+ghost use Rattle.case_rounds.specs.Appending.{IsBatchReady};
 
 use case_view::{paths_give_the_owners, views_have_the_clauses};
 use journal_laws::{ready_stays, since_the_choice};
@@ -19,7 +19,7 @@ use journal_laws::{ready_stays, since_the_choice};
 pub fn rounds_can_be_appended()
     ensures { (s : Setting) (past : List Entry) (v : Case) (batch : Batch)
         → IsLegalJournal s past → StandsFor s past v → IsSome v.given
-        → IsBatchOf s.limits.splits v batch → IsReady s past v.worker v.node batch }
+        → IsBatchOf s.limits.splits v batch → IsBatchReady s past v.worker v.node batch }
 {
     views_have_the_clauses();
     paths_give_the_owners();
@@ -31,7 +31,7 @@ pub fn rounds_can_be_appended()
 pub fn rounds_wait()
     ensures { (s : Setting) (past later : List Entry) (w m : ℕ) (batch : Batch)
         → IsLegalJournal s (later ++ past) → NoneBy w later → IsLive s (later ++ past) m
-        → IsReady s past w m batch → IsReady s (later ++ past) w m batch }
+        → IsBatchReady s past w m batch → IsBatchReady s (later ++ past) w m batch }
 {
     ready_stays();
 }

@@ -8,7 +8,7 @@ use Rattle.case_journal.specs.Journal.{last_line}
 use Rattle.case_journal.specs.Paths.{owner}
 use Rattle.journal_laws.specs.Batches.{publication}
 use Rattle.split_tree.specs.State.{State}
-use Rattle.case_turns.specs.Turns.{IsNext, IsPublished}
+use Rattle.case_turns.specs.Turns.{IsNextLine, HasPublished}
 
 told_empty : (o : Option Line) (b : Bool) → b ≡ true → IsSomeAnd o (λ l. b ≡ is_empty l.stated.clause) → IsSomeAnd o (λ l. is_empty l.stated.clause ≡ true)
 told_empty (Some l) b on h = sym h ∙ on
@@ -27,7 +27,7 @@ first_empty chain l seen b is same h on = sym (told_line chain l seen b is same 
 pub chain_line : (chain : List Line) (l : Line) (seen : List Line) (b : Bool) → chain ≡ l ∷ [] → seen ≡ chain → IsSomeAnd (last_line seen) (λ x. b ≡ is_empty x.stated.clause) → b ≡ false → is_empty l.stated.clause ≡ false
 chain_line chain l seen b is same h off = sym (told_line chain l seen b is same h) ∙ off
 
-pub is_published : (old new : State) (w m at : ℕ) (chain : List Line) (l : Line) → IsNext old.setting old.past w m at chain → chain ≡ l ∷ [] → new.past ≡ record { by = w; event = Publish at chain false } ∷ old.past → is_empty l.stated.clause ≡ false → old.spare_events ≤ new.spare_events + 1 → old.spare_steps ≤ new.spare_steps + 1 → IsPublished old new w m l
+pub is_published : (old new : State) (w m at : ℕ) (chain : List Line) (l : Line) → IsNextLine old.setting old.past w m at chain → chain ≡ l ∷ [] → new.past ≡ record { by = w; event = Publish at chain false } ∷ old.past → is_empty l.stated.clause ≡ false → old.spare_events ≤ new.spare_events + 1 → old.spare_steps ≤ new.spare_steps + 1 → HasPublished old new w m l
 is_published old new w m at chain l n is past full events steps =
     let both : n.line ∷ [] ≡ l ∷ [] = sym n.is ∙ is in
     let same : n.line ≡ l = cc in

@@ -18,7 +18,7 @@ use Rattle.case_journal.specs.declared.event.End.TheVariants as ends
 use Rattle.case_journal.specs.Legal.{IsLegal, IsLegalJournal, IsClaimable, IsSettled}
 use Rattle.case_journal.specs.LeafLaws.{claimer_within}
 use Rattle.case_journal.specs.BoundLaws.{rounds_bound}
-use Rattle.case_turns.specs.Turns.{Continues, IsFree}
+use Rattle.case_turns.specs.Turns.{Continues, HoldsUnchosen}
 use Rattle.case_turns.specs.Working.{IsBetween, IsBusy}
 use Rattle.case_turns.proofs.Turns.{StaysDead}
 
@@ -42,7 +42,7 @@ not_some (Some x) h = absurd (cc)
 
 -- ---- room changes nothing
 
-pub free_moved : (old new : State) (w m : ℕ) → new.setting ≡ old.setting → new.past ≡ old.past → IsFree old w m → IsFree new w m
+pub free_moved : (old new : State) (w m : ℕ) → new.setting ≡ old.setting → new.past ≡ old.past → HoldsUnchosen old w m → HoldsUnchosen new w m
 free_moved old new w m e f h = record {
   holds = subst (λ s. Holds s new.past w m) (sym e) (subst (λ p. Holds old.setting p w m) (sym f) h.holds);
   free = ap (λ p. chosen p m) f ∙ h.free;
@@ -90,7 +90,7 @@ choice w m clause = record { by = w; event = Choose m clause None }
 some_is : {A : Type 0} (o : Option A) (x : A) → o ≡ Some x → IsSome o
 some_is o x e = subst IsSome (sym e) refl
 
-pub choice_busy : StaysDead → (old new : State) (m clause : ℕ) → new.setting ≡ old.setting → new.past ≡ choice 1 m clause ∷ old.past → IsFree old 1 m → IsBusy new 1 m
+pub choice_busy : StaysDead → (old new : State) (m clause : ℕ) → new.setting ≡ old.setting → new.past ≡ choice 1 m clause ∷ old.past → HoldsUnchosen old 1 m → IsBusy new 1 m
 choice_busy stays old new m clause e f h =
     let s = old.setting in
     let past = old.past in
@@ -115,7 +115,7 @@ none_unless : {A : Type 0} (o : Option A) → ((x : A) → o ≡ Some x → ⊥)
 none_unless None h = refl
 none_unless (Some x) h = absurd (h x refl)
 
-pub claim_free : StaysDead → AreHeld → (old new : State) (m : ℕ) → IsLegalJournal old.setting old.past → new.setting ≡ old.setting → new.past ≡ record { by = 1; event = Claim m } ∷ old.past → first_end old.past ≡ None → IsBetween old 1 → IsClaimable old.setting old.past m → IsFree new 1 m
+pub claim_free : StaysDead → AreHeld → (old new : State) (m : ℕ) → IsLegalJournal old.setting old.past → new.setting ≡ old.setting → new.past ≡ record { by = 1; event = Claim m } ∷ old.past → first_end old.past ≡ None → IsBetween old 1 → IsClaimable old.setting old.past m → HoldsUnchosen new 1 m
 claim_free stays held old new m legal e f none h c =
     let s = old.setting in
     let past = old.past in
@@ -136,14 +136,14 @@ claim_free stays held old new m legal e f none h c =
 same_held : (s : Setting) (past : List Entry) (v w m n : ℕ) → v ≡ w → Holds s past v n → Holds s past w m → n ≡ m
 same_held s past v w m n e a b = let q : Some n ≡ Some m = sym (subst (λ x. Holds s past x n) e a).claims ∙ b.claims in cc
 
-none_chosen : AreHeld → (t : State) (m : ℕ) → IsLegalJournal t.setting t.past → t.setting.workers ≡ 1 → IsFree t 1 m → (n c : ℕ) → is_leaf t.past n ≡ true → IsLive t.setting t.past n → chosen t.past n ≡ Some c → ⊥
+none_chosen : AreHeld → (t : State) (m : ℕ) → IsLegalJournal t.setting t.past → t.setting.workers ≡ 1 → HoldsUnchosen t 1 m → (n c : ℕ) → is_leaf t.past n ≡ true → IsLive t.setting t.past n → chosen t.past n ≡ Some c → ⊥
 none_chosen held t m legal one h n c leaf live is =
     let r = held t.setting t.past legal n c is leaf live in
     let within = claimer_within t.setting t.past legal r.0 n r.1.claims in
     let q = same_held t.setting t.past r.0 1 m n (omega (arith, within.0, within.1, one)) r.1 h.holds in
     some_none (chosen t.past m) c (ap (chosen t.past) (sym q) ∙ is) h.free
 
-pub legal_spent : AreHeld → (t : State) (m clause : ℕ) → IsLegalJournal t.setting t.past → t.setting.workers ≡ 1 → IsFree t 1 m → pick_at t.setting t.past m ≡ Some clause → t.setting.limits.rounds ≤ rounds t.past → IsLegal t.setting t.past 1 (Spent m)
+pub legal_spent : AreHeld → (t : State) (m clause : ℕ) → IsLegalJournal t.setting t.past → t.setting.workers ≡ 1 → HoldsUnchosen t 1 m → pick_at t.setting t.past m ≡ Some clause → t.setting.limits.rounds ≤ rounds t.past → IsLegal t.setting t.past 1 (Spent m)
 legal_spent held t m clause legal one h picked spent = record {
   some = omega arith;
   worker = omega (arith, one);

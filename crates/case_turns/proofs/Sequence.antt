@@ -26,8 +26,8 @@ use Rattle.split_tree.specs.State.{State}
 use Rattle.case_rounds.specs.declared.round.Finish.{Finish}
 use Rattle.case_rounds.specs.declared.round.Finish.TheVariants as finishes
 use Rattle.case_rounds.specs.declared.round.Batch.{Batch}
-use Rattle.case_rounds.specs.Appending.{IsFinishAt, publication_at, AreLastAt, IsReady}
-use Rattle.case_turns.specs.Turns.{IsNext, IsLastNow, IsPublished}
+use Rattle.case_rounds.specs.Appending.{IsFinishAt, publication_at, AreLastAt, IsBatchReady}
+use Rattle.case_turns.specs.Turns.{IsNextLine, IsLastNow, HasPublished}
 use Rattle.case_turns.proofs.Turns.{item_at}
 
 -- w has appended the first events of a batch that was made over the journal `start`: so many of its lines are published, and none of these is empty
@@ -88,7 +88,7 @@ published_line start m lines finish events last done rest ev node chain put_off 
 pub one_line : (start : List Entry) (m : ℕ) (lines : List Line) (n node : ℕ) (chain : List Line) (put_off : Bool) (p : IsPublicationOf start m lines n (Publish node chain put_off)) → chain ≡ p.line ∷ []
 one_line start m lines n node chain put_off p = let e = p.is in let q : p.line ∷ [] ≡ chain = cc in sym q
 
-pub is_next : (s : Setting) (start past : List Entry) (w m : ℕ) (lines : List Line) (done : List Event) (node : ℕ) (chain : List Line) (put_off : Bool) → IsSoFar s start past w m lines done → (p : IsPublicationOf start m lines (length done) (Publish node chain put_off)) → CanGoOn s past w m p.line → IsNext s past w m node chain
+pub is_next : (s : Setting) (start past : List Entry) (w m : ℕ) (lines : List Line) (done : List Event) (node : ℕ) (chain : List Line) (put_off : Bool) → IsSoFar s start past w m lines done → (p : IsPublicationOf start m lines (length done) (Publish node chain put_off)) → CanGoOn s past w m p.line → IsNextLine s past w m node chain
 is_next s start past w m lines done node chain put_off h p go =
     let e = p.is in
     let at : owner start p.line.stated.deps m ≡ node = cc in
@@ -100,7 +100,7 @@ is_next s start past w m lines done node chain put_off h p go =
     }
 
 -- once the line is published, the rest is under way
-pub one_more : (s : Setting) (start : List Entry) (old new : State) (w m : ℕ) (lines : List Line) (done : List Event) (ev : Event) (l : Line) → slice_get lines (length done) ≡ Some l → IsSoFar s start old.past w m lines done → IsPublished old new w m l
+pub one_more : (s : Setting) (start : List Entry) (old new : State) (w m : ℕ) (lines : List Line) (done : List Event) (ev : Event) (l : Line) → slice_get lines (length done) ≡ Some l → IsSoFar s start old.past w m lines done → HasPublished old new w m l
     → IsUnderWay s start (publication w (owner old.past l.stated.deps m) l ∷ old.past) w m lines (suc (length done)) → IsSoFar s start new.past w m lines (done ++ ev ∷ [])
 one_more s start old new w m lines done ev l found h p way =
     let n : suc (length done) ≡ length (done ++ ev ∷ []) = omega (arith, length-append done (ev ∷ [])) in
@@ -197,7 +197,7 @@ not_done s start past w m lines done finish last h ends is are =
 
 -- ---- the next event of a batch that is ready
 
-module _ (s : Setting) (past0 now : List Entry) (w m : ℕ) (events done rest : List Event) (ev : Event) (b : Batch) (r : IsReady s past0 w m b) (are : events ≡ b.events) (far : IsSoFar s r.can.start now w m r.lines done) (joined : events ≡ done ++ ev ∷ rest) where
+module _ (s : Setting) (past0 now : List Entry) (w m : ℕ) (events done rest : List Event) (ev : Event) (b : Batch) (r : IsBatchReady s past0 w m b) (are : events ≡ b.events) (far : IsSoFar s r.can.start now w m r.lines done) (joined : events ≡ done ++ ev ∷ rest) where
   listed_as : events ≡ map (publication_at r.can.start m) r.lines ++ r.last
   listed_as = are ∙ r.events
 

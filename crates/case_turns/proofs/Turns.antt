@@ -20,7 +20,7 @@ use Rattle.case_journal.specs.ListLaws.{get_right}
 use Rattle.case_journal.specs.PlaceLaws.{claimed_within}
 use Rattle.backjump.specs.Cases.{OnlyCloses, IsCaseEntry}
 use Rattle.journal_laws.specs.Batches.{publication}
-use Rattle.case_turns.specs.Turns.{IsFree}
+use Rattle.case_turns.specs.Turns.{HoldsUnchosen}
 
 pub item_at : {A : Type 0} (items before rest : List A) (x : A) → items ≡ before ++ x ∷ rest → slice_get items (length before) ≡ Some x
 item_at items before rest x e =
@@ -94,7 +94,7 @@ live_quiet : (s : Setting) (past : List Entry) (w m n : ℕ) → IsLive s past n
 live_quiet s past w m n live = λ d. live (d.0, record { lists = d.1.lists; line = d.1.line; found = ap (λ ls. numbered ls d.0) (sym (append-nil (ledger s past))) ∙ d.1.found; empty = d.1.empty })
 
 pub activated : StaysDead → (s : Setting) (past : List Entry) (w m spare more : ℕ) → IsLegalJournal s past → Holds s past w m → IsSettled s past → first_end past ≡ None
-    → IsFree (record { setting = s; past = record { by = w; event = Activate m } ∷ past; spare_events = spare; spare_steps = more }) w m
+    → HoldsUnchosen (record { setting = s; past = record { by = w; event = Activate m } ∷ past; spare_events = spare; spare_steps = more }) w m
 activated stays s past w m spare more legal h settled unended =
     let e : Entry = record { by = w; event = Activate m } in
     record {
@@ -107,12 +107,12 @@ activated stays s past w m spare more legal h settled unended =
       unended = ap (λ o. or_else o None) unended;
     }
 
-pub activated_now : StaysDead → (old new : State) (w m : ℕ) → IsLegalJournal old.setting old.past → Holds old.setting old.past w m → IsSettled old.setting old.past → first_end old.past ≡ None → new.setting ≡ old.setting → new.past ≡ record { by = w; event = Activate m } ∷ old.past → IsFree new w m
+pub activated_now : StaysDead → (old new : State) (w m : ℕ) → IsLegalJournal old.setting old.past → Holds old.setting old.past w m → IsSettled old.setting old.past → first_end old.past ≡ None → new.setting ≡ old.setting → new.past ≡ record { by = w; event = Activate m } ∷ old.past → HoldsUnchosen new w m
 activated_now stays old new w m legal h settled unended e f =
     let a = activated stays old.setting old.past w m new.spare_events new.spare_steps legal h settled unended in
     let p : record { by = w; event = Activate m } ∷ old.past ≡ new.past = sym f in
-    subst (λ x. IsFree (record { setting = x; past = new.past; spare_events = new.spare_events; spare_steps = new.spare_steps }) w m) (sym e)
-    (subst (λ x. IsFree (record { setting = old.setting; past = x; spare_events = new.spare_events; spare_steps = new.spare_steps }) w m) p a)
+    subst (λ x. HoldsUnchosen (record { setting = x; past = new.past; spare_events = new.spare_events; spare_steps = new.spare_steps }) w m) (sym e)
+    (subst (λ x. HoldsUnchosen (record { setting = old.setting; past = x; spare_events = new.spare_events; spare_steps = new.spare_steps }) w m) p a)
 
 -- ---- empty clauses
 

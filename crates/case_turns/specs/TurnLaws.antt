@@ -11,7 +11,7 @@ use Rattle.backjump.specs.Cases.{OnlyCloses, IsCaseEntry}
 use Rattle.journal_laws.specs.Frame.{NoneBy}
 use Rattle.case_view.specs.declared.kept.Case.{Case}
 use Rattle.case_rounds.specs.declared.round.Batch.{Batch}
-use Rattle.case_rounds.specs.Appending.{IsReady}
+use Rattle.case_rounds.specs.Appending.{IsBatchReady}
 use Rattle.case_turns.specs.Turns.{AreBy, Continues, IsWaiting}
 
 -- ---- more events
@@ -39,14 +39,14 @@ closes_more old new e c = continues_more old (e ∷ old) new (continues_one old 
 -- ---- a batch waits
 
 -- one that was computed from the journal as it is waits for its turn
-pub waits_now : (t : State) (w m : ℕ) (v : Case) (b : Batch) → IsLegalJournal t.setting t.past → v.node ≡ m → v.worker ≡ w → Holds t.setting t.past w m → IsReady t.setting t.past v.worker v.node b → IsWaiting t.setting t.past w m b
+pub waits_now : (t : State) (w m : ℕ) (v : Case) (b : Batch) → IsLegalJournal t.setting t.past → v.node ≡ m → v.worker ≡ w → Holds t.setting t.past w m → IsBatchReady t.setting t.past v.worker v.node b → IsWaiting t.setting t.past w m b
 waits_now t w m v b legal node worker holds ready = record {
   start = t.past;
   later = [];
   more = refl;
   none = tt;
   there = claimed_within t.setting t.past legal w m holds.claims;
-  ready = subst (λ n. IsReady t.setting t.past w n b) node (subst (λ x. IsReady t.setting t.past x v.node b) worker ready);
+  ready = subst (λ n. IsBatchReady t.setting t.past w n b) node (subst (λ x. IsBatchReady t.setting t.past x v.node b) worker ready);
 }
 
 -- ---- while another worker goes on

@@ -18,7 +18,7 @@ use Rattle.journal_laws.specs.Frame.{NoneBy}
 use Rattle.journal_laws.specs.Batches.{CanGoOn, publication}
 use Rattle.case_view.specs.Views.{IsIn}
 use Rattle.case_rounds.specs.declared.round.Batch.{Batch}
-use Rattle.case_rounds.specs.Appending.{IsReady}
+use Rattle.case_rounds.specs.Appending.{IsBatchReady}
 use Rattle.case_turns.specs.declared.appending.Gone.{Gone}
 use Rattle.case_turns.specs.declared.appending.Gone.TheVariants as gones
 use Rattle.case_turns.specs.declared.appending.Appended.{Appended}
@@ -33,16 +33,16 @@ pub record IsWaiting (s : Setting) (past : List Entry) (w m : ℕ) (b : Batch) :
   pub more : past ≡ later ++ start
   pub none : NoneBy w later
   pub there : m < nodes past
-  pub ready : IsReady s start w m b
+  pub ready : IsBatchReady s start w m b
 
 -- these are the events of a batch that can be appended
 pub record AreReady (s : Setting) (past : List Entry) (w m : ℕ) (events : List Event) : Type 0 where
   pub batch : Batch
-  pub ready : IsReady s past w m batch
+  pub ready : IsBatchReady s past w m batch
   pub are : events ≡ batch.events
 
 -- the chain is one line, which belongs at the node `at` and may be published next
-pub record IsNext (s : Setting) (past : List Entry) (w m at : ℕ) (chain : List Line) : Type 0 where
+pub record IsNextLine (s : Setting) (past : List Entry) (w m at : ℕ) (chain : List Line) : Type 0 where
   pub line : Line
   pub is : chain ≡ line ∷ []
   pub owns : at ≡ owner past line.stated.deps m
@@ -75,19 +75,19 @@ pub record IsLeft (t : State) (w : ℕ) : Type 0 where
   pub ended : IsOpenOrProved t.past
 
 -- the line was published
-pub record IsPublished (old new : State) (w m : ℕ) (l : Line) : Type 0 where
+pub record HasPublished (old new : State) (w m : ℕ) (l : Line) : Type 0 where
   pub past : new.past ≡ publication w (owner old.past l.stated.deps m) l ∷ old.past
   pub full : is_empty l.stated.clause ≡ false
   pub events : old.spare_events ≤ new.spare_events + 1
   pub steps : old.spare_steps ≤ new.spare_steps + 1
 
 abbrev pub IsGone : State → State → ℕ → ℕ → List Line → Gone → Type 0
-IsGone old new w m chain gones.Published = (l : Line) → chain ≡ l ∷ [] → IsPublished old new w m l
+IsGone old new w m chain gones.Published = (l : Line) → chain ≡ l ∷ [] → HasPublished old new w m l
 IsGone old new w m chain gones.Closed = IsLeft new w
 IsGone old new w m chain gones.Full = first_end new.past ≡ Some ends.Steps
 
 -- the worker holds m, where nothing is chosen
-pub record IsFree (t : State) (w m : ℕ) : Type 0 where
+pub record HoldsUnchosen (t : State) (w m : ℕ) : Type 0 where
   pub holds : Holds t.setting t.past w m
   pub free : chosen t.past m ≡ None
   pub settled : IsSettled t.setting t.past
@@ -116,9 +116,9 @@ CanNotSplit t events = (ev : Event) × IsIn events ev × HasNoSplitLeft t ev
 pub record IsEndedBy (t : State) : Type 0 where
   pub is : (first_end t.past ≡ Some ends.Steps) ⊎ ((symbols : ℕ) × (first_end t.past ≡ Some (ends.Size symbols)))
 
-abbrev pub IsOutcome : State → ℕ → ℕ → Appended → Type 0
-IsOutcome t w m outcomes.Activated = IsFree t w m
-IsOutcome t w m outcomes.Left = IsLeft t w
-IsOutcome t w m outcomes.Ended = IsEndedBy t
-IsOutcome t w m outcomes.Again = IsAgain t w m
-IsOutcome t w m outcomes.Dropped = IsSome (reason t.setting t.past) ⊎ IsDead t.setting t.past m
+abbrev pub IsAppended : State → ℕ → ℕ → Appended → Type 0
+IsAppended t w m outcomes.Activated = HoldsUnchosen t w m
+IsAppended t w m outcomes.Left = IsLeft t w
+IsAppended t w m outcomes.Ended = IsEndedBy t
+IsAppended t w m outcomes.Again = IsAgain t w m
+IsAppended t w m outcomes.Dropped = IsSome (reason t.setting t.past) ⊎ IsDead t.setting t.past m

@@ -5,7 +5,7 @@ use Rattle.case_journal.specs.Facts.{chosen, Holds}
 use Rattle.case_journal.specs.Ending.{first_end}
 use Rattle.case_journal.specs.Legal.{IsSettled}
 use Rattle.case_turns.specs.declared.desk.Desk.{Desk}
-use Rattle.case_turns.specs.Turns.{IsFree}
+use Rattle.case_turns.specs.Turns.{HoldsUnchosen}
 use Rattle.case_turns.specs.Desks.{IsDesk}
 
 -- unless an event has ended the journal, the worker holds no node, and the tree is settled
@@ -22,5 +22,5 @@ pub record IsBusy (t : State) (w m : ℕ) : Type 0 where
 
 -- the worker holds m still, and its desk is that of m; or it has left it, or an event has ended the journal
 abbrev pub GoesOnAt : State → ℕ → ℕ → Desk → Bool → Type 0
-GoesOnAt t w m desk true = IsFree t w m × IsDesk t.setting t.past w m desk
+GoesOnAt t w m desk true = HoldsUnchosen t w m × IsDesk t.setting t.past w m desk
 GoesOnAt t w m desk false = IsBetween t w

@@ -5,10 +5,10 @@ ghost use Rattle.case_journal.specs.Journal.{last_line, lines_of, splits};
 ghost use Rattle.case_journal.specs.Facts.{Holds};
 ghost use Rattle.case_journal.specs.Ending.{first_end};
 ghost use Rattle.case_journal.specs.Legal.{IsSettled};
-ghost use Rattle.case_rounds.specs.Appending.{IsReady};
+ghost use Rattle.case_rounds.specs.Appending.{IsBatchReady};
 ghost use Rattle.case_turns.specs.declared.appending.Appended.TheVariants.{Again, Dropped};
 ghost use Rattle.clause_splitting.specs.Splitting.{IsSplitAt};
-ghost use Rattle.case_turns.specs.Turns.{AreReady, CanNotSplit, Continues, HasNoSplitLeft, IsGone, IsLastNow, IsNext, IsOutcome, IsWaiting};
+ghost use Rattle.case_turns.specs.Turns.{AreReady, CanNotSplit, Continues, HasNoSplitLeft, IsGone, IsLastNow, IsNextLine, IsAppended, IsWaiting};
 
 use backjump::{close, number_after};
 use case_journal::Event;
@@ -67,7 +67,7 @@ fn publish(
     chain: Items<Line>,
 ) -> Result<Gone, AllocError>
     requires holds { Holds table.old.setting table.old.past by node }
-    requires next { IsNext table.old.setting table.old.past by node at chain }
+    requires next { IsNextLine table.old.setting table.old.past by node at chain }
     requires settled { IsSettled table.old.setting table.old.past }
     requires unended { first_end table.old.past ≡ None }
     requires event_fits { 1 ≤ table.old.spare_events }
@@ -115,7 +115,7 @@ fn append_split(
     requires event_fits { 1 ≤ table.old.spare_events }
     requires steps_fit { length steps ≤ table.old.spare_steps }
     ensures setting { table.new.setting ≡ table.old.setting }
-    ensures outcome { IsOutcome table.new by node result }
+    ensures outcome { IsAppended table.new by node result }
     ensures more { Continues by table.old.past table.new.past }
     ensures again { result ≡ Again → table.old.setting.limits.splits ≤ splits table.old.past }
     ensures some { ¬ (result ≡ Dropped) }
@@ -140,7 +140,7 @@ fn append_last(table: &mut Table, by: u32, node: u32, event: Event) -> Appended
     requires event_fits { 1 ≤ table.old.spare_events }
     requires steps_fit { length (lines_of event) ≤ table.old.spare_steps }
     ensures setting { table.new.setting ≡ table.old.setting }
-    ensures outcome { IsOutcome table.new by node result }
+    ensures outcome { IsAppended table.new by node result }
     ensures more { Continues by table.old.past table.new.past }
     ensures again { result ≡ Again → HasNoSplitLeft table.old event }
     ensures some { ¬ (result ≡ Dropped) }
@@ -186,7 +186,7 @@ fn append_events(
     requires events_fit { length events ≤ table.old.spare_events }
     requires steps_fit { sum_by (λ ev. length (lines_of ev)) events ≤ table.old.spare_steps }
     ensures setting { table.new.setting ≡ table.old.setting }
-    ensures outcome { IfOk result (IsOutcome table.new by node) }
+    ensures outcome { IfOk result (IsAppended table.new by node) }
     ensures more { OnOk result (Continues by table.old.past table.new.past) }
     ensures again { IfOk result (λ done. done ≡ Again → CanNotSplit table.old events) }
     ensures some { IfOk result (λ done. ¬ (done ≡ Dropped)) }
@@ -258,7 +258,7 @@ pub fn append(
     requires settled { IsSettled table.old.setting table.old.past }
     requires waits { IsWaiting table.old.setting table.old.past by node batch }
     ensures setting { table.new.setting ≡ table.old.setting }
-    ensures outcome { IfOk result (IsOutcome table.new by node) }
+    ensures outcome { IfOk result (IsAppended table.new by node) }
     ensures more { OnOk result (Continues by table.old.past table.new.past) }
     ensures again { IfOk result (λ done. done ≡ Again → CanNotSplit table.old batch.events) }
     ensures dropped { IfOk result (λ done. done ≡ Dropped → table.new ≡ table.old) }

@@ -5,7 +5,7 @@ ghost use Rattle.case_journal.specs.Journal.{rounds};
 ghost use Rattle.case_journal.specs.Facts.{Holds};
 ghost use Rattle.case_journal.specs.Ending.{first_end, has_empty, reason};
 ghost use Rattle.case_journal.specs.Legal.{IsSettled};
-ghost use Rattle.case_turns.specs.Turns.{IsFree};
+ghost use Rattle.case_turns.specs.Turns.{HoldsUnchosen};
 ghost use Rattle.case_turns.specs.Desks.{HasTrail, IsDesk};
 ghost use Rattle.case_turns.specs.Working.{IsBetween};
 
@@ -23,7 +23,7 @@ fn claim(table: &mut Table) -> Result<u32, AllocError>
     requires going { reason table.old.setting table.old.past ≡ None }
     requires between { IsBetween table.old 1 }
     ensures setting { table.new.setting ≡ table.old.setting }
-    ensures free { IfOk result (λ node. IsFree table.new 1 node) }
+    ensures free { IfOk result (λ node. HoldsUnchosen table.new 1 node) }
     ensures past { IfOk result (λ node. table.new.past ≡ record { by = 1; event = Claim node } ∷ table.old.past) }
 {
     chosen_leaves_are_held();

@@ -6,7 +6,7 @@ ghost use Rattle.case_journal.specs.Facts.{chosen, Holds};
 ghost use Rattle.case_journal.specs.Ending.{first_end, has_empty};
 ghost use Rattle.case_journal.specs.Legal.{IsSettled};
 ghost use Rattle.case_journal.specs.Picking.{pick_at};
-ghost use Rattle.case_turns.specs.Turns.{IsFree};
+ghost use Rattle.case_turns.specs.Turns.{HoldsUnchosen};
 ghost use Rattle.case_turns.specs.Desks.{HasTrail, IsDesk};
 ghost use Rattle.case_turns.specs.Working.{IsBetween, IsBusy, GoesOnAt};
 
@@ -52,7 +52,7 @@ pub fn finish_round(
 /// Appends that the clause is chosen at the leaf.
 fn choose(table: &mut Table, node: u32, clause: u32)
     requires one { table.old.setting.workers ≡ 1 }
-    requires free { IsFree table.old 1 node }
+    requires free { HoldsUnchosen table.old 1 node }
     requires picked { pick_at table.old.setting table.old.past node ≡ Some clause }
     requires few { rounds table.old.past < table.old.setting.limits.rounds }
     requires room { 1 ≤ table.old.spare_events }
@@ -82,7 +82,7 @@ fn work_round(
 ) -> Result<bool, AllocError>
     requires one { table.old.setting.workers ≡ 1 }
     requires unrefuted { has_empty table.old.setting.input ≡ false }
-    requires free { IsFree table.old 1 node }
+    requires free { HoldsUnchosen table.old 1 node }
     requires desk { IsDesk table.old.setting table.old.past 1 node desk.old }
     ensures setting { table.new.setting ≡ table.old.setting }
     ensures held { IfOk result (λ held. GoesOnAt table.new 1 node desk.new held) }
@@ -114,7 +114,7 @@ pub fn work_on(
 ) -> Result<(), AllocError>
     requires one { table.old.setting.workers ≡ 1 }
     requires unrefuted { has_empty table.old.setting.input ≡ false }
-    requires free { IsFree table.old 1 node }
+    requires free { HoldsUnchosen table.old 1 node }
     requires desk { IsDesk table.old.setting table.old.past 1 node desk.old }
     ensures setting { table.new.setting ≡ table.old.setting }
     ensures between { OnOk result (IsBetween table.new 1) }

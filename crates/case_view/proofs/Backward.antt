@@ -10,7 +10,7 @@ use Rattle.clause_filing.specs.declared.filing.Entry.{Entry}
 use Rattle.case_view.specs.declared.kept.Kept.{Kept}
 use Rattle.case_view.specs.declared.kept.Case.{Case}
 use Rattle.case_view.specs.declared.kept.Mark.{Mark}
-use Rattle.case_view.specs.Caches.{AreFiled, AreUnderAll}
+use Rattle.case_view.specs.Caches.{AreFiledClauses, AreUnderAll}
 use Rattle.case_view.specs.Marks.{Begins, HasGrown, IsMarkOf}
 
 taken : {A : Type 0} (n : ℕ) (old new now : List A) → n ≡ length old → Begins old new → now ≡ take n new → now ≡ old
@@ -70,7 +70,7 @@ went_back mark v w now m g c = same_case now v
 abbrev pub Stay : ℕ → List Entry → List Entry → Type 0
 Stay value old new = (x : ℕ) (e : Entry) → numbered old x ≡ Some e → e.value < value → numbered new x ≡ Some e
 
-pub filed_back : (n : ℕ) (old new now : List Kept) (before after : List Entry) → n ≡ length old → Begins old new → now ≡ old → AreFiled new before → Stay n before after → AreFiled now after
+pub filed_back : (n : ℕ) (old new now : List Kept) (before after : List Entry) → n ≡ length old → Begins old new → now ≡ old → AreFiledClauses new before → Stay n before after → AreFiledClauses now after
 filed_back n old new now before after is begins same filed stay i k at =
     let here : slice_get old i ≡ Some k = ap (λ xs. slice_get xs i) (sym same) ∙ at in
     let f = filed i k (ap (λ xs. slice_get xs i) begins.1 ∙ get_more old begins.0 i k here) in

@@ -17,7 +17,7 @@ use Rattle.case_journal.specs.Legal.{IsAsked, IsLegalJournal}
 use Rattle.case_journal.specs.PlaceLaws.{claimed_within, stem_there}
 use Rattle.case_view.specs.declared.kept.Case.{Case}
 use Rattle.case_view.specs.Views.{kept_lines, IsRising, path_by, path_nodes, sides_by, path_sides, given_at, worked_at, listed_at, IsCaseOf, GoesOn}
-use Rattle.case_view.specs.Walks.{hung, is_among, count_with, entered, side_into, nodes_into, sides_into, given_by, worked_with, noted_at, noted, IsNotable, IsWay, Reaches}
+use Rattle.case_view.specs.Walks.{hung, is_among, count_with, node_after, side_into, nodes_into, sides_into, given_by, worked_with, noted_at, with_event, IsNotable, IsWay, Reaches}
 use Rattle.case_view.proofs.PathSteps.{count_is, nodes_grow, hung_old, hung_first, hung_there, enters, path_rises}
 use Rattle.case_view.proofs.ListSteps.{listed_step, given_step, worked_step, choice_within}
 
@@ -169,16 +169,16 @@ next_of s past m goal at v e h low found =
     }
 
 pub walk_step : (s : Setting) (past : List Entry) → IsLegalJournal s past → (m : ℕ) → m < nodes past → (goal : List ℕ) (at : ℕ) (v : Case) (e : Entry) → IsNext s past m goal at v e
-    → Reaches s past m goal (at + 1) (noted (ledger s past) e.event (slice_get goal (length v.nodes)) v)
+    → Reaches s past m goal (at + 1) (with_event (ledger s past) e.event (slice_get goal (length v.nodes)) v)
 walk_step s past legal m there goal at v e h =
     let start = h.start in
     let b = hung h.front (e ∷ start) m in
     let here : IsLegalJournal s (e ∷ start) = legal_tail s h.front (e ∷ start) (subst (IsLegalJournal s) h.more legal) in
     let low : b < nodes (e ∷ start) = hung_there s h.front (e ∷ start) (subst (IsLegalJournal s) h.more legal) m (subst (λ p. m < nodes p) h.more there) in
     let counts : count_with v.splits ≡ nodes start = ap count_with h.is.splits ∙ sym (count_is start) in
-    let into : entered e.event (count_with v.splits) (slice_get goal (length v.nodes)) v.node ≡ b =
-    ap (λ c. entered e.event c (slice_get goal (length v.nodes)) v.node) counts
-    ∙ (ap (entered e.event (nodes start) (slice_get goal (length v.nodes))) h.node
+    let into : node_after e.event (count_with v.splits) (slice_get goal (length v.nodes)) v.node ≡ b =
+    ap (λ c. node_after e.event c (slice_get goal (length v.nodes)) v.node) counts
+    ∙ (ap (node_after e.event (nodes start) (slice_get goal (length v.nodes))) h.node
     ∙ enters s past start h.front e m goal v.nodes legal there h.more h.goes (h.is.nodes ∙ ap (path_nodes start) h.node)) in
     let full = ledger_more s (h.front ++ e ∷ []) start in
     let whole : ledger s past ≡ ledger s start ++ full.0 = ap (ledger s) (h.more ∙ sym (append_assoc h.front (e ∷ []) start)) ∙ full.1 in

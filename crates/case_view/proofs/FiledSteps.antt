@@ -16,11 +16,11 @@ use Rattle.case_journal.specs.ListLaws.{get_more}
 use Rattle.case_view.specs.declared.kept.Kept.{Kept}
 use Rattle.case_view.specs.declared.kept.Case.{Case}
 use Rattle.case_view.specs.Views.{IsIn, and_more}
-use Rattle.case_view.specs.Walks.{count_with, entered, side_into, worked_with, noted}
+use Rattle.case_view.specs.Walks.{count_with, node_after, side_into, worked_with, with_event}
 use Rattle.case_view.specs.Marks.{Begins, HasGrown}
 use Rattle.case_view.specs.MarkLaws.{begins_self}
 use Rattle.case_view.specs.PlaceLaws.{contains_at}
-use Rattle.case_view.specs.Caches.{AreFiled, AreFiledTo, AreUnderAll, AreUnderAllTo, IsSubsumedBy, IsOther}
+use Rattle.case_view.specs.Caches.{AreFiledClauses, AreFiledTo, AreUnderAll, AreUnderAllTo, IsSubsumedBy, IsOther}
 
 -- ---- lists that begin with others
 
@@ -40,11 +40,11 @@ worked_begins : (ev : Event) (m : ℕ) (given : Option Kept) (list : List Kept) 
 worked_begins (Activate node) m given list = if_new (eqb node m) list (and_more list given) (with_more list given)
 worked_begins _ m given list = begins_self list
 
-pub noted_grows : (ledger : List Line) (ev : Event) (next : Option ℕ) (v new : Case) → new ≡ noted ledger ev next v → HasGrown v new
+pub noted_grows : (ledger : List Line) (ev : Event) (next : Option ℕ) (v new : Case) → new ≡ with_event ledger ev next v → HasGrown v new
 noted_grows ledger ev next v new is = subst (HasGrown v) (sym is) (record {
   worker = refl;
-  nodes = if_old (eqb (entered ev (count_with v.splits) next v.node) v.node) v.nodes (entered ev (count_with v.splits) next v.node ∷ []);
-  path = if_old (eqb (entered ev (count_with v.splits) next v.node) v.node) v.path (side_into (lines_of ev) (count_with v.splits) (entered ev (count_with v.splits) next v.node) ∷ []);
+  nodes = if_old (eqb (node_after ev (count_with v.splits) next v.node) v.node) v.nodes (node_after ev (count_with v.splits) next v.node ∷ []);
+  path = if_old (eqb (node_after ev (count_with v.splits) next v.node) v.node) v.path (side_into (lines_of ev) (count_with v.splits) (node_after ev (count_with v.splits) next v.node) ∷ []);
   worked = worked_begins ev v.node v.given v.worked;
   listed = (_, refl);
 })
@@ -56,7 +56,7 @@ before P old new begins h i k low at =
     let same : t.0 ≡ k = (let e : Some t.0 ≡ Some k = sym (ap (λ xs. slice_get xs i) begins.1 ∙ get_more old begins.0 i t.0 t.1) ∙ at in cc) in
     subst (P i) same (h i t.0 t.1)
 
-pub filed_before : (old new : List Kept) (entries : List Entry) (n : ℕ) → Begins old new → n ≡ length old → AreFiled old entries → AreFiledTo n new entries
+pub filed_before : (old new : List Kept) (entries : List Entry) (n : ℕ) → Begins old new → n ≡ length old → AreFiledClauses old entries → AreFiledTo n new entries
 filed_before old new entries n begins is h i k low at = before (λ i k. IsFiledClause entries k.stated.clause i) old new begins h i k (omega (arith, low, is)) at
 
 pub under_before : (old new : List Kept) (entries : List Entry) (n : ℕ) → Begins old new → n ≡ length old → AreUnderAll old entries → AreUnderAllTo n new entries
@@ -143,6 +143,6 @@ where_false A B C true f m = m
 where_false A B C false f m = f m
 
 -- where none that is filed for this very clause is this one, none is
-pub told : (list : List Kept) (entries : List Entry) (clause : Clause) (b : Bool) → AreFiled list entries → MatchBool b (IsSubsumedBy list clause) ((n : ℕ) → IsFiledClause entries clause n → IsOther list clause n)
+pub told : (list : List Kept) (entries : List Entry) (clause : Clause) (b : Bool) → AreFiledClauses list entries → MatchBool b (IsSubsumedBy list clause) ((n : ℕ) → IsFiledClause entries clause n → IsOther list clause n)
     → MatchBool b (IsSubsumedBy list clause) ((k : Kept) → IsIn list k → ¬ (k.stated.clause ≡ clause))
 told list entries clause b filed m = where_false _ _ _ b (λ none k at same. none at.0 (subst (λ d. IsFiledClause entries d at.0) same (filed at.0 k at.1)) k at.1 same) m

@@ -18,7 +18,7 @@ use Rattle.case_journal.specs.BranchLaws.{branch_old, climbs}
 use Rattle.case_journal.specs.StandingLaws.{parent_below, new_branch}
 use Rattle.case_journal.specs.PlaceLaws.{stem_there, split_there}
 use Rattle.case_view.specs.Views.{path_by, path_nodes, IsRising}
-use Rattle.case_view.specs.Walks.{hung, is_among, count_with, entered, IsWay}
+use Rattle.case_view.specs.Walks.{hung, is_among, count_with, node_after, IsWay}
 
 -- ---- counts
 
@@ -263,19 +263,19 @@ path_goes (e ∷ later) past m =
 first_more : (xs more : List ℕ) → slice_get (xs ++ more) (length xs) ≡ slice_get more 0
 first_more xs more = ap (slice_get (xs ++ more)) (omega arith) ∙ get_right xs more 0
 
-enter_none : (ev : Event) (count m : ℕ) → entered ev count None m ≡ m
+enter_none : (ev : Event) (count m : ℕ) → node_after ev count None m ≡ m
 enter_none (Split node lines put_off) count m = refl
 enter_none _ count m = refl
 
 -- a node of the path that comes later is not entered yet
-enter_later : (ev : Event) (count m : ℕ) (o : Option ℕ) → ((x : ℕ) → o ≡ Some x → count + nodes_of ev ≤ x) → entered ev count o m ≡ m
+enter_later : (ev : Event) (count m : ℕ) (o : Option ℕ) → ((x : ℕ) → o ≡ Some x → count + nodes_of ev ≤ x) → node_after ev count o m ≡ m
 enter_later ev count m None h = enter_none ev count m
 enter_later (Split node lines put_off) count m (Some x) h =
     let far = h x refl in
     cond-false (eqb x count || eqb x (count + 1)) x m (or_from (eqb x count) (eqb x (count + 1)) (ne_eqb x count (λ q. omega (arith, q, far))) (ne_eqb x (count + 1) (λ q. omega (arith, q, far))))
 enter_later _ count m (Some x) h = refl
 
-enter_child : (node : ℕ) (lines : _) (put_off : _) (count m b : ℕ) → count ≤ b → b < count + 2 → entered (Split node lines put_off) count (Some b) m ≡ b
+enter_child : (node : ℕ) (lines : _) (put_off : _) (count m b : ℕ) → count ≤ b → b < count + 2 → node_after (Split node lines put_off) count (Some b) m ≡ b
 enter_child node lines put_off count m b le low = cond-true (eqb b count || eqb b (count + 1)) b m (elim (cases_Bool (eqb b count)) [
   | inl here ↦ or_left (eqb b count) (eqb b (count + 1)) here
   | inr other ↦ or_right (eqb b count) (eqb b (count + 1)) (eq-eqb b (count + 1) (elim (cases_lt b (count + 1)) [
@@ -286,13 +286,13 @@ enter_child node lines put_off count m b le low = cond-true (eqb b count || eqb 
 
 -- the node of the view after the event is where the leaf hung then
 enter_step : (ev : Event) (count b : ℕ) (above goal more : List ℕ) → b < count + nodes_of ev → goal ≡ path_by ev count b above ++ more → AreFrom (count + nodes_of ev) more
-    → entered ev count (slice_get goal (length above)) (stem ev count b) ≡ b
+    → node_after ev count (slice_get goal (length above)) (stem ev count b) ≡ b
 enter_step (Split node lines put_off) count b above goal more there is from = elim (cases_Bool (leb count b)) [
   | inl new ↦
       let next : slice_get goal (length above) ≡ Some b =
       ap (λ ns. slice_get ns (length above)) (is ∙ (ap (λ ns. ns ++ more) (cond-true (leb count b) (above ++ b ∷ []) above new) ∙ append_assoc above (b ∷ []) more))
       ∙ first_more above (b ∷ more) in
-      ap (λ o. entered (Split node lines put_off) count o (stem (Split node lines put_off) count b)) next
+      ap (λ o. node_after (Split node lines put_off) count o (stem (Split node lines put_off) count b)) next
       ∙ enter_child node lines put_off count (stem (Split node lines put_off) count b) b (leb-true count b new) there
   | inr old ↦
       let next : slice_get goal (length above) ≡ slice_get more 0 =
@@ -305,7 +305,7 @@ enter_step ev count b above goal more there is from =
     enter_later ev count b (slice_get goal (length above)) (λ x h. from 0 x (sym next ∙ h))
 
 pub enters : (s : Setting) (past start later : List Entry) (e : Entry) (m : ℕ) (goal above : List ℕ) → IsLegalJournal s past → m < nodes past → past ≡ later ++ e ∷ start → IsWay past start m goal
-    → (let b = hung later (e ∷ start) m in above ≡ path_nodes start (stem e.event (nodes start) b) → entered e.event (nodes start) (slice_get goal (length above)) (stem e.event (nodes start) b) ≡ b)
+    → (let b = hung later (e ∷ start) m in above ≡ path_nodes start (stem e.event (nodes start) b) → node_after e.event (nodes start) (slice_get goal (length above)) (stem e.event (nodes start) b) ≡ b)
 enters s past start later e m goal above legal there is (inl whole) path =
     let b = hung later (e ∷ start) m in
     let low : b < nodes (e ∷ start) = hung_there s later (e ∷ start) (subst (IsLegalJournal s) is legal) m (subst (λ p. m < nodes p) is there) in
@@ -316,5 +316,5 @@ enters s past start later e m goal above legal there is (inr old) path =
     let b = hung later (e ∷ start) m in
     let same : b ≡ m = hung_old later (e ∷ start) m (omega (arith, old.1)) in
     let at : stem e.event (nodes start) b ≡ b = ap (stem e.event (nodes start)) same ∙ (stem_old e.event (nodes start) m old.1 ∙ sym same) in
-    ap (λ ns. entered e.event (nodes start) (slice_get ns (length above)) (stem e.event (nodes start) b)) old.0
+    ap (λ ns. node_after e.event (nodes start) (slice_get ns (length above)) (stem e.event (nodes start) b)) old.0
     ∙ (enter_none e.event (nodes start) (stem e.event (nodes start) b) ∙ at)

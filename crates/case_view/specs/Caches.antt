@@ -13,8 +13,8 @@ abbrev pub AreFiledTo : ℕ → List Kept → List Entry → Type 0
 AreFiledTo n list entries = (i : ℕ) (k : Kept) → i < n → slice_get list i ≡ Some k → IsFiledClause entries k.stated.clause i
 
 -- each clause is
-abbrev pub AreFiled : List Kept → List Entry → Type 0
-AreFiled list entries = (i : ℕ) (k : Kept) → slice_get list i ≡ Some k → IsFiledClause entries k.stated.clause i
+abbrev pub AreFiledClauses : List Kept → List Entry → Type 0
+AreFiledClauses list entries = (i : ℕ) (k : Kept) → slice_get list i ≡ Some k → IsFiledClause entries k.stated.clause i
 
 -- each of the first n clauses is filed with its place, under all its atoms
 abbrev pub AreUnderAllTo : ℕ → List Kept → List Entry → Type 0
@@ -38,5 +38,5 @@ IsOther list c n = (k : Kept) → slice_get list n ≡ Some k → ¬ (k.stated.c
 -- the clauses are in order; those that are listed and worked off are filed
 pub record IsView (v : Inside) : Type 0 where
   pub ordered : IsOrdered v.case
-  pub clauses : AreFiled v.case.listed v.clauses
+  pub clauses : AreFiledClauses v.case.listed v.clauses
   pub literals : AreUnderAll v.case.worked v.literals

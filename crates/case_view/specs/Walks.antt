@@ -28,9 +28,9 @@ abbrev pub count_with : ℕ → ℕ
 count_with splits = 2 * splits + 1
 
 -- the node of the view after the event, where `next` is the node below it on the path to the leaf
-abbrev pub entered : Event → ℕ → Option ℕ → ℕ → ℕ
-entered (Split node lines put_off) count (Some next) m = if next == count || next == count + 1 then next else m
-entered _ count next m = m
+abbrev pub node_after : Event → ℕ → Option ℕ → ℕ → ℕ
+node_after (Split node lines put_off) count (Some next) m = if next == count || next == count + 1 then next else m
+node_after _ count next m = m
 
 -- the side of the split by which it is entered
 abbrev pub side_into : List Line → ℕ → ℕ → Assumption
@@ -69,8 +69,8 @@ noted_at ledger ev into v = record {
 }
 
 -- the view after the event, where `next` is the node below its own on the path to the leaf
-abbrev pub noted : List Line → Event → Option ℕ → Case → Case
-noted ledger ev next v = noted_at ledger ev (entered ev (count_with v.splits) next v.node) v
+abbrev pub with_event : List Line → Event → Option ℕ → Case → Case
+with_event ledger ev next v = noted_at ledger ev (node_after ev (count_with v.splits) next v.node) v
 
 -- the event may be noted: its numbers fit, what it chooses is in the ledger, and the nodes rise
 pub record IsNotable (ledger : List Line) (ev : Event) (v : Case) : Type 0 where

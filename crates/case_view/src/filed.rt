@@ -6,7 +6,7 @@ ghost use Rattle.case_view.specs.declared.kept.Kept.{Kept};
 ghost use Rattle.case_view.specs.Views.{IsCaseOf};
 ghost use Rattle.case_view.specs.Walks.{Reaches};
 ghost use Rattle.case_view.specs.Marks.{HasGrown};
-ghost use Rattle.case_view.specs.Caches.{AreFiled, AreFiledTo, AreUnderAll, AreUnderAllTo, IsSubsumedBy, IsOther};
+ghost use Rattle.case_view.specs.Caches.{AreFiledClauses, AreFiledTo, AreUnderAll, AreUnderAllTo, IsSubsumedBy, IsOther};
 
 use crate::kept::{Case, Kept};
 use crate::walking::walk;
@@ -19,7 +19,7 @@ use std::alloc::{AllocError, Global};
 /// Files the clauses from this place on, each with its place, under their first atoms.
 pub fn file_clauses(filing: &mut Filing, clauses: &[Kept], from: usize) -> Result<(), AllocError>
     requires { AreFiledTo from clauses.now filing.old }
-    ensures { OnOk result (AreFiled clauses.now filing.new) }
+    ensures { OnOk result (AreFiledClauses clauses.now filing.new) }
 {
     if clauses.len() > u32::MAX as usize {
         return Err(AllocError);
@@ -56,12 +56,12 @@ pub fn walk_and_file(
 ) -> Result<(), AllocError>
     requires there { leaf < nodes table.now.past }
     requires reaches { Reaches table.now.setting table.now.past leaf way.now case.old.events case.old }
-    requires clauses { AreFiled case.old.listed clauses.old }
+    requires clauses { AreFiledClauses case.old.listed clauses.old }
     requires literals { AreUnderAll case.old.worked literals.old }
     ensures is { OnOk result (IsCaseOf table.now.setting table.now.past case.new) }
     ensures node { OnOk result (case.new.node ≡ leaf) }
     ensures grows { OnOk result (HasGrown case.old case.new) }
-    ensures clauses { OnOk result (AreFiled case.new.listed clauses.new) }
+    ensures clauses { OnOk result (AreFiledClauses case.new.listed clauses.new) }
     ensures literals { OnOk result (AreUnderAll case.new.worked literals.new) }
 {
     let listed = case.listed.len();

@@ -5,7 +5,7 @@ ghost use Rattle.case_journal.specs.declared.event.Event.TheVariants.{Choose};
 ghost use Rattle.case_journal.specs.Journal.{ledger, steps, nodes, lines_of, nodes_of, splits_of};
 ghost use Rattle.case_journal.specs.Facts.{lists};
 ghost use Rattle.case_view.specs.Views.{keep, kept_lines, path_nodes, listed_at, IsRising, IsCaseOf};
-ghost use Rattle.case_view.specs.Walks.{is_among, count_with, entered, side_into, nodes_into, sides_into, given_by, worked_with, noted, IsNotable, Reaches};
+ghost use Rattle.case_view.specs.Walks.{is_among, count_with, node_after, side_into, nodes_into, sides_into, given_by, worked_with, with_event, IsNotable, Reaches};
 ghost use Rattle.case_view.specs.Marks.{HasGrown};
 
 use crate::kept::{Case, Kept};
@@ -86,9 +86,9 @@ fn add_listed(
 }
 
 /// The node of the view after the event, where `next` is the node below it on the path to the leaf.
-fn entered(event: &Event, count: u32, next: Option<u32>, node: u32) -> u32
+fn node_after(event: &Event, count: u32, next: Option<u32>, node: u32) -> u32
     requires { count + nodes_of event.now < 2 ^ 32 }
-    ensures { result ≡ entered event.now count next node }
+    ensures { result ≡ node_after event.now count next node }
 {
     match (event, next) {
         (Event::Split { .. }, Some(next)) if next == count || next == count + 1 => next,
@@ -161,11 +161,11 @@ fn note(
     next: Option<u32>,
 ) -> Result<(), AllocError>
     requires { IsNotable (ledger table.now.setting table.now.past) event.now case.old }
-    ensures { OnOk result (case.new ≡ noted (ledger table.now.setting table.now.past) event.now next case.old) }
+    ensures { OnOk result (case.new ≡ with_event (ledger table.now.setting table.now.past) event.now next case.old) }
 {
     let count = 2 * case.splits + 1;
     let node = case.node;
-    let into = entered(event, count, next, node);
+    let into = node_after(event, count, next, node);
     let nodes = case.nodes.as_slice();
     add_listed(
         alloc,

@@ -9,7 +9,7 @@ use Rattle.case_journal.specs.Facts.{Holds}
 use Rattle.case_journal.specs.Ending.{first_end}
 use Rattle.case_journal.specs.Legal.{IsLegalJournal, IsSettled}
 use Rattle.journal_laws.specs.Batches.{publication}
-use Rattle.case_turns.specs.Turns.{IsNext, IsGone, IsLastNow}
+use Rattle.case_turns.specs.Turns.{IsNextLine, IsGone, IsLastNow}
 use Rattle.case_turns.specs.TurnLaws.{continues_more, continues_one}
 use Rattle.case_turns.proofs.Turns.{item_at}
 use Rattle.case_turns.proofs.Sequence.{publishes, finishes_now, one_line, is_next, one_more, not_done}
@@ -38,7 +38,7 @@ publish-requires-clause-next c =
     let far = v.way r.batch r.ready r.are in
     let p = publishes s a.table.now.past now a.by a.node a.events done rest ev r.batch r.ready r.are far joined node chain c.in-Publish.put_off c.in-Publish.is in
     let go = c.lines_go_on.ensures.next s r.ready.can.start now a.by a.node r.ready.lines (length done) p.line v.legal v.unended far.way p.found in
-    subst (λ x. IsNext x now a.by a.node node chain) (sym v.setting) (is_next s r.ready.can.start now a.by a.node r.ready.lines done node chain c.in-Publish.put_off far p go)
+    subst (λ x. IsNextLine x now a.by a.node node chain) (sym v.setting) (is_next s r.ready.can.start now a.by a.node r.ready.lines done node chain c.in-Publish.put_off far p go)
 
 pub publish-requires-clause-settled : goal.publish-requires-clause-settled
 publish-requires-clause-settled c = subst (λ s. IsSettled s c.loop-event.table.past) (sym c.loop-event.invariant.setting) c.loop-event.invariant.settled

@@ -3,7 +3,7 @@ use Rattle.std.specs.Prelude.{IsSome}
 use Rattle.case_journal.specs.Facts.{chosen, IsDead}
 use Rattle.case_journal.specs.Ending.{reason}
 use Rattle.case_rounds.specs.Events.{IsBatchOf}
-use Rattle.case_turns.specs.Turns.{IsOutcome}
+use Rattle.case_turns.specs.Turns.{IsAppended}
 use Rattle.case_turns.specs.TurnLaws.{waits_now}
 use Rattle.case_turns.proofs.Computed.{some_given, not_again, not_dropped}
 use Rattle.case_turns.proofs.Desks.{desk_caught, trail_later_on}
@@ -67,5 +67,5 @@ unreachable-requires-in-Dropped c =
     let t = c.args.table.now in
     let new = c.append.new.table in
     let same : new ≡ t = c.in_ok-append.ensures.dropped c.in-Dropped.is in
-    let told = subst (IsOutcome new 1 c.args.node) c.in-Dropped.is c.in_ok-append.ensures.outcome in
+    let told = subst (IsAppended new 1 c.args.node) c.in-Dropped.is c.in_ok-append.ensures.outcome in
     not_dropped t 1 c.args.node c.requires.unrefuted c.requires.busy.unended c.requires.busy.holds (subst (λ x. IsSome (reason x.setting x.past) ⊎ IsDead x.setting x.past c.args.node) same told)

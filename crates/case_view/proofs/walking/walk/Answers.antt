@@ -2,7 +2,7 @@ use Rattle.std.proofs.Common.{◌≡◌, ◌∙◌, ◌+◌, length, sym, ap, su
 use Rattle.std.specs.Prelude.{slice_get}
 use Rattle.case_journal.specs.declared.event.Entry.{Entry}
 use Rattle.case_journal.specs.Journal.{ledger}
-use Rattle.case_view.specs.Walks.{noted, Reaches}
+use Rattle.case_view.specs.Walks.{with_event, Reaches}
 use Rattle.case_view.proofs.CaseSteps.{next_of, walk_step, notable, arrives}
 use Rattle.case_view.specs.MarkLaws.{grown_self, grown_more}
 use Rattle.case_view.proofs.FiledSteps.{noted_grows}
@@ -28,7 +28,7 @@ loop-place-preserved c =
     let v = c.loop-place.case in
     let next = next_of t.setting t.past c.args.leaf c.args.way.now at v e c.loop-place.invariant.reaches (omega (arith, c.loop-place-test.true, c.events-place-end.ensures)) c.event.ensures in
     let below : c.copied-next.result ≡ slice_get c.args.way.now (length v.nodes) = c.copied-next.ensures ∙ (c.at.ensures ∙ ap (slice_get c.args.way.now) c.len.ensures) in
-    let is = c.in_ok-note.ensures ∙ ap (λ o. noted (ledger t.setting t.past) e.event o v) below in
+    let is = c.in_ok-note.ensures ∙ ap (λ o. with_event (ledger t.setting t.past) e.event o v) below in
     record {
       reaches = subst (Reaches t.setting t.past c.args.leaf c.args.way.now (at + 1)) (sym is) (walk_step t.setting t.past c.laws.ensures.legal c.args.leaf c.requires.there c.args.way.now at v e next);
       grows = grown_more c.args.case.now v c.note.new.case c.loop-place.invariant.grows (noted_grows (ledger t.setting t.past) e.event (slice_get c.args.way.now (length v.nodes)) v c.note.new.case is);

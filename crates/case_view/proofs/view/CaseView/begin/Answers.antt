@@ -4,7 +4,7 @@ use Rattle.case_journal.specs.Journal.{ledger}
 use Rattle.case_journal.specs.Facts.{Holds}
 use Rattle.case_journal.specs.PlaceLaws.{claimed_within}
 use Rattle.case_journal.specs.LeafLaws.{claimer_within}
-use Rattle.case_view.specs.Caches.{AreFiled, AreUnderAll}
+use Rattle.case_view.specs.Caches.{AreFiledClauses, AreUnderAll}
 use Rattle.case_view.proofs.CaseSteps.{begins}
 use Rattle.case_view.proofs.Orders.{case_ordered}
 use Rattle.case_view.proofs.view.CaseView.begin.Goals as goal
@@ -45,6 +45,6 @@ invariant_of-result c =
     let v = c.walk.new.case in
     record {
       ordered = case_ordered t.setting t.past v (c.conclusions_are_in_order.ensures t.setting.input (ledger t.setting t.past) c.laws.ensures.concluded) c.in_ok-walk.ensures.is;
-      clauses = subst (λ list. AreFiled list c.file_clauses.new.filing) c.as_slice-2.ensures c.in_ok-file_clauses.ensures;
+      clauses = subst (λ list. AreFiledClauses list c.file_clauses.new.filing) c.as_slice-2.ensures c.in_ok-file_clauses.ensures;
       literals = subst (λ list. AreUnderAll list c.file_under_all.new.filing) c.as_slice-3.ensures c.in_ok-file_under_all.ensures;
     }

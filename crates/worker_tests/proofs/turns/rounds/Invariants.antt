@@ -1,6 +1,6 @@
 use Rattle.std.proofs.Common.{◌≡◌}
 use Rattle.case_turns.specs.Turns.{Continues}
-use Rattle.turns_tests.proofs.turns.rounds.Given as goal
+use Rattle.worker_tests.proofs.turns.rounds.Given as goal
 
 abbrev pub invariant-loop : goal.invariant-loop
 invariant-loop l = record {

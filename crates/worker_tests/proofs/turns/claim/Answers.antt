@@ -2,7 +2,7 @@ use Rattle.std.proofs.Common.{◌∷◌, ◌∙◌, ap}
 use Rattle.case_journal.specs.declared.event.Entry.{Entry}
 use Rattle.case_journal.specs.declared.event.Event.TheVariants.{Claim}
 use Rattle.case_turns.specs.TurnLaws.{continues_one, continues_more}
-use Rattle.turns_tests.proofs.turns.claim.Goals as goal
+use Rattle.worker_tests.proofs.turns.claim.Goals as goal
 
 pub returns-in-Some-clause-more : goal.returns-in-Some-clause-more
 returns-in-Some-clause-more c =

@@ -1,6 +1,6 @@
 use Rattle.std.proofs.Common.{◌∙◌}
 use Rattle.case_turns.specs.TurnLaws.{continues_more}
-use Rattle.turns_tests.proofs.turns.rounds.Goals as goal
+use Rattle.worker_tests.proofs.turns.rounds.Goals as goal
 
 pub loop-preserved : goal.loop-preserved
 loop-preserved c = record {

@@ -1,5 +1,5 @@
 use Rattle.case_turns.specs.TurnLaws.{continues_more}
-use Rattle.turns_tests.proofs.turns.round.Goals as goal
+use Rattle.worker_tests.proofs.turns.round.Goals as goal
 
 pub returns-then-not-branch-clause-more : goal.returns-then-not-branch-clause-more
 returns-then-not-branch-clause-more c =

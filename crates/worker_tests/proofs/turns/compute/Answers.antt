@@ -3,7 +3,7 @@ use Rattle.std.specs.Prelude.{IsSome}
 use Rattle.case_journal.specs.Facts.{Holds}
 use Rattle.case_rounds.specs.Events.{IsBatchOf}
 use Rattle.case_turns.specs.TurnLaws.{waits_now}
-use Rattle.turns_tests.proofs.turns.compute.Goals as goal
+use Rattle.worker_tests.proofs.turns.compute.Goals as goal
 
 pub returns : goal.returns
 returns c =

@@ -1,7 +1,7 @@
 use Rattle.std.proofs.Common.{sym, subst, arith}
 use Rattle.case_turns.specs.Turns.{IsWaiting}
 use Rattle.case_turns.specs.TurnLaws.{waits_on}
-use Rattle.turns_tests.proofs.turns.append_after.Goals as goal
+use Rattle.worker_tests.proofs.turns.append_after.Goals as goal
 
 pub append-requires-clause-waits : goal.append-requires-clause-waits
 append-requires-clause-waits c =

@@ -3,7 +3,7 @@ use Rattle.case_journal.specs.declared.event.Entry.{Entry}
 use Rattle.case_journal.specs.declared.event.Event.TheVariants.{Choose}
 use Rattle.case_journal.specs.PlaceLaws.{claimed_within}
 use Rattle.case_turns.specs.TurnLaws.{continues_one, continues_more}
-use Rattle.turns_tests.proofs.turns.choose.Goals as goal
+use Rattle.worker_tests.proofs.turns.choose.Goals as goal
 
 pub chosen-requires : goal.chosen-requires
 chosen-requires c =
