@@ -9,7 +9,9 @@ use proof_steps::{Line, Statement};
 use sort_inference::{solved, sort_steps, unsolved_atom};
 use spl_terms::{Atom, Clause, Items, Term, same_clause, symbols_of};
 use std::alloc::{AllocError, Global};
-use superposition::{InferError, infer_pair, infer_self};
+use superposition::{
+    InferError, equality_factorings, factorings, infer_pair, infer_self, reflections,
+};
 
 /// The clause of a text in order.
 pub(crate) fn ordered(alloc: Global, text: &str) -> Result<Clause, AllocError>
@@ -149,4 +151,45 @@ pub fn large(alloc: Global, row: &Row) -> Result<bool, AllocError> {
     other.succedent.push(atom)?;
     let answer = refused(alloc, clause(alloc, "||Pfab")?, other)?;
     Ok(answer == row.number(3) as u64)
+}
+
+/// `refused CLAUSE CLAUSE SYMBOLS`: how many symbols the refusal of the inferences of two clauses names, where the first atom
+/// of the second one is selected.
+pub fn refusal(alloc: Global, row: &Row) -> Result<bool, AllocError> {
+    let first = clause(alloc, row.text(1))?;
+    let answer = refused(alloc, first, clause(alloc, row.text(2))?)?;
+    Ok(answer == row.number(3) as u64)
+}
+
+/// How many symbols the refusal of the inferences by one rule names; 0 where there is one conclusion.
+fn refused_alone(
+    alloc: Global,
+    rule: &str,
+    clause: Clause,
+    selected: Option<usize>,
+) -> Result<u64, AllocError> {
+    let clause = clause.into_ordered(alloc)?;
+    if symbols_of(&clause) > 4096 {
+        return Err(AllocError);
+    }
+    let given = kept(alloc, 1, clause, selected);
+    let mut out = Vec::new(alloc);
+    let answer = match rule {
+        "factoring" => factorings(alloc, &given, &mut out),
+        "reflection" => reflections(alloc, &given, &mut out),
+        _ => equality_factorings(alloc, &given, &mut out),
+    };
+    match answer {
+        Ok(()) => Ok(out.len() as u64 ^ 1),
+        Err(InferError::Big { symbols }) => Ok(symbols),
+        Err(InferError::Memory) => Err(AllocError),
+    }
+}
+
+/// `alone factoring|reflection|equality_factoring CLAUSE SELECTED|none SYMBOLS`: how many symbols the refusal of the
+/// inferences of a clause by that rule names, or 0 where it gives one conclusion.
+pub fn alone(alloc: Global, row: &Row) -> Result<bool, AllocError> {
+    let given = clause(alloc, row.text(2))?;
+    let answer = refused_alone(alloc, row.text(1), given, place(row.text(3)))?;
+    Ok(answer == row.number(4) as u64)
 }

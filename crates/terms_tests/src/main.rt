@@ -60,6 +60,8 @@ fn is_right(alloc: Global, row: &Row) -> Result<bool, AllocError> {
         "pair" => inferences::pair(alloc, row),
         "own" => inferences::own(alloc, row),
         "large" => inferences::large(alloc, row),
+        "refused" => inferences::refusal(alloc, row),
+        "alone" => inferences::alone(alloc, row),
         "sorts" => inferences::sorts(alloc, row),
         "unsolved" => inferences::unsolved(alloc, row),
         "subsumes" => subsumption::subsumed(alloc, row),
