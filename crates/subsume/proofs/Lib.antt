@@ -4,3 +4,8 @@ mod Parts
 mod Sums
 mod Covered
 mod Entries
+mod Paths
+mod Numbers
+mod Grown
+mod Below
+mod Pairs

@@ -6,7 +6,12 @@
 mod atoms;
 mod candidates;
 mod counting;
+mod features;
+mod index;
 mod placing;
+mod slots;
 mod subsuming;
+mod trie;
 
+pub use index::FeatureIndex;
 pub use subsuming::subsumes;

@@ -1,0 +1,6 @@
+-- How an index of clauses is kept.
+use Rattle.subsume.specs.declared.index.FeatureIndex.TheInside.{Inside}
+use Rattle.subsume.specs.Held.{AreFound}
+
+abbrev pub IsFiled : Inside → Type 0
+IsFiled i = AreFound i.trie i.slots.items

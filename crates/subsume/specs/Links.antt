@@ -1,0 +1,6 @@
+-- How a tree of number lists is kept.
+use Rattle.subsume.specs.declared.trie.Trie.TheInside.{Inside}
+use Rattle.subsume.specs.Tries.{AreLinked}
+
+abbrev pub IsLinked : Inside → Type 0
+IsLinked t = AreLinked t.nodes.items t.firsts.items

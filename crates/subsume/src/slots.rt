@@ -1,0 +1,132 @@
+//! Clauses with their keys, each in a slot, and the look-up of slots by features.
+ghost use Rattle.std.specs.Prelude.{◌≡◌, ◌⊎◌, ℕ, ◌<◌, Some, IfOk, OnOk, MatchBool, MatchOption, Contains, slice_get};
+ghost use Rattle.spl_terms.specs.declared.clause.Clause.{Clause};
+ghost use Rattle.subsume.specs.Features.{features};
+ghost use Rattle.subsume.specs.Tries.{IsChild};
+ghost use Rattle.subsume.specs.Held.{IsIn, AreFound, held_pairs};
+
+use crate::trie::Trie;
+use spl_terms::{Clause, same_clause};
+use std::alloc::AllocError;
+
+/// A clause that is held with its key.
+#[derive(Debug, Drop)]
+pub(crate) struct Held {
+    /// The clause.
+    pub(crate) clause: Clause,
+    /// Its key.
+    pub(crate) key: u32,
+}
+
+/// What is held in the slot.
+fn held_at(slots: &[Option<Held>], slot: u32) -> Option<&Held>
+    ensures { MatchOption result
+        ((c : Clause) (key : ℕ) → IsIn slots.now slot c key → ⊥)
+        (λ held. slice_get slots.now slot ≡ Some (Some held.now)) }
+{
+    match slots.get(slot as usize) {
+        Some(Some(held)) => Some(held),
+        _ => None,
+    }
+}
+
+/// Whether the slot has this clause with this key.
+fn is_in(slots: &[Option<Held>], slot: u32, clause: &Clause, key: u32) -> bool
+    ensures { MatchBool result (IsIn slots.now slot clause.now key) (IsIn slots.now slot clause.now key → ⊥) }
+{
+    match held_at(slots, slot) {
+        Some(held) => {
+            if held.key != key {
+                return false;
+            }
+            same_clause(&held.clause, clause)
+        }
+        None => false,
+    }
+}
+
+/// The slot of this clause with this key, among those below the node; none where none of them has it.
+fn slot_below(
+    trie: &Trie,
+    slots: &[Option<Held>],
+    leaf: u32,
+    clause: &Clause,
+    key: u32,
+) -> Option<u32>
+    ensures { MatchOption result
+        ((slot m : ℕ) → IsChild trie.now leaf slot m → IsIn slots.now slot clause.now key → ⊥)
+        (λ slot. IsIn slots.now slot clause.now key) }
+{
+    let mut place = trie.first(leaf);
+    while place != 0 {
+        match trie.node(place) {
+            None => return None,
+            Some(node) => {
+                if is_in(slots, node.count, clause, key) {
+                    return Some(node.count);
+                }
+                place = node.sibling;
+            }
+        }
+    }
+    None
+}
+
+/// The slot of this clause with this key; none where no slot has it.
+pub(crate) fn slot_of(
+    trie: &Trie,
+    slots: &[Option<Held>],
+    counts: &[u32],
+    clause: &Clause,
+    key: u32,
+) -> Option<u32>
+    requires found { AreFound trie.now slots.now }
+    requires counts { counts.now ≡ features clause.now }
+    ensures { MatchOption result
+        ((slot : ℕ) → IsIn slots.now slot clause.now key → ⊥)
+        (λ slot. IsIn slots.now slot clause.now key) }
+{
+    match trie.leaf(counts) {
+        None => None,
+        Some(leaf) => slot_below(trie, slots, leaf, clause, key),
+    }
+}
+
+/// Adds the key in the slot, if there is one.
+fn add_key(slots: &[Option<Held>], slot: u32, keys: &mut Vec<u32>) -> Result<(), AllocError>
+    ensures kept { OnOk result ((k : ℕ) → Contains keys.old.items k → Contains keys.new.items k) }
+    ensures own { OnOk result ((c : Clause) (k : ℕ) → IsIn slots.now slot c k → Contains keys.new.items k) }
+    ensures held { OnOk result ((k : ℕ) → Contains keys.new.items k → Contains keys.old.items k ⊎ ((c : Clause) × IsIn slots.now slot c k)) }
+{
+    match held_at(slots, slot) {
+        Some(held) => {
+            keys.push(held.key)?;
+            Ok(())
+        }
+        None => Ok(()),
+    }
+}
+
+/// Adds the keys in the slots below the node.
+pub(crate) fn add_keys(
+    trie: &Trie,
+    slots: &[Option<Held>],
+    leaf: u32,
+    keys: &mut Vec<u32>,
+) -> Result<(), AllocError>
+    ensures kept { OnOk result ((k : ℕ) → Contains keys.old.items k → Contains keys.new.items k) }
+    ensures below { OnOk result ((slot m : ℕ) (c : Clause) (k : ℕ) → IsChild trie.now leaf slot m → IsIn slots.now slot c k → Contains keys.new.items k) }
+    ensures held { OnOk result ((k : ℕ) → Contains keys.new.items k → Contains keys.old.items k ⊎ ((slot : ℕ) × (c : Clause) × IsIn slots.now slot c k)) }
+{
+    let mut place = trie.first(leaf);
+    while place != 0 {
+        match trie.node(place) {
+            None => return Ok(()),
+            Some(node) => {
+                add_key(slots, node.count, keys)?;
+                place = node.sibling;
+            }
+        }
+    }
+    Ok(())
+}
