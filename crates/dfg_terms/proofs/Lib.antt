@@ -1,3 +1,2 @@
 pub mod Spelled
 pub mod Scopes
-pub mod Written

@@ -17,3 +17,4 @@ pub mod VariableLaws
 pub mod LookupLaws
 pub mod SymbolLaws
 pub mod TermLaws
+pub mod GivenLaws

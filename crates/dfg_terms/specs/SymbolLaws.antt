@@ -61,7 +61,8 @@ fitting_stands place at (Some g) f e =
     let u = unless_is (misfit place g.symbol.kind) at g f e in
     subst (λ (x : Found). (Some g ≡ Some x) × (misfit place x.symbol.kind ≡ None)) u.1 (refl, u.0)
 
-abbrev IsDeclaredAs : List Declared → List ℕ → Found → Type 0
+-- the symbol has this name, with its number of arguments
+abbrev pub IsDeclaredAs : List Declared → List ℕ → Found → Type 0
 IsDeclaredAs symbols name f = slice_get symbols f.symbol.number ≡ Some (record { name = name; arity = f.arity; kind = f.symbol.kind })
 
 declared_stands : (symbols : List Declared) (name : List ℕ) (f : Found) (o : Option Symbol) → found name symbols ≡ o → with_arity symbols o ≡ Some f → IsDeclaredAs symbols name f
@@ -71,6 +72,10 @@ declared_stands symbols name f (Some s) is e =
     let here : Some (record { symbol = s; arity = d.0.arity }) ≡ Some f = sym (ap (option_map {U = Found} (λ (x : Declared). record { symbol = s; arity = x.arity })) d.1) ∙ e in
     let same : record { symbol = s; arity = d.0.arity } ≡ f = cc in
     subst (IsDeclaredAs symbols name) same (d.1 ∙ λ i. Some (record { name = d.2 i; arity = d.0.arity; kind = d.3 i }))
+
+pub lookup_stands : (symbols : List Declared) (name : List ℕ) (f : Found) → lookup name symbols ≡ Some f → IsDeclaredAs symbols name f
+unfolding lookup
+lookup_stands symbols name f e = declared_stands symbols name f (found name symbols) refl e
 
 pub symbol_stands : (bytes : List ℕ) (symbols : List Declared) (place : Place) (t : Token) (f : Found) → symbol_named bytes symbols place t ≡ Ok f → IsSymbol symbols place f.symbol f.arity (token_bytes bytes t)
 unfolding symbol_named lookup
@@ -89,13 +94,22 @@ counted_stands at f count e =
 
 -- ---- what is declared is read
 
+pub lookup_read : (symbols : List Declared) → HasOwnNames symbols → (name : List ℕ) (f : Found) → IsDeclaredAs symbols name f → lookup name symbols ≡ Some f
+unfolding lookup
+lookup_read symbols own name f is =
+    let d : Declared = record { name = name; arity = f.arity; kind = f.symbol.kind } in
+    ap (with_arity symbols) (own f.symbol.number d is) ∙ ap (option_map {U = Found} (λ (x : Declared). record { symbol = f.symbol; arity = x.arity })) is
+
+pub declared_spelled : (bytes : List ℕ) (symbols : List Declared) → AreNamed symbols → (name : List ℕ) (f : Found) (t : Token) → IsDeclaredAs symbols name f → token_bytes bytes t ≡ name → spelled_at bytes t ≡ Ok name
+declared_spelled bytes symbols named name f t is text =
+    spelled_read bytes t name text (name_letters name (named_at_number symbols f.symbol.number (record { name = name; arity = f.arity; kind = f.symbol.kind }) named is))
+
 pub symbol_read : (bytes : List ℕ) (symbols : List Declared) → HasOwnNames symbols → AreNamed symbols → (place : Place) (s : Symbol) (count : ℕ) (name : List ℕ) (t : Token) → IsSymbol symbols place s count name → token_bytes bytes t ≡ name → symbol_named bytes symbols place t ≡ Ok (record { symbol = s; arity = count })
-unfolding symbol_named lookup
+unfolding symbol_named
 symbol_read bytes symbols own named place s count name t is text =
-    let d : Declared = record { name = name; arity = count; kind = s.kind } in
-    let letters : AreLetters name = name_letters name (named_at_number symbols s.number d named is.1) in
-    let looked : with_arity symbols (found name symbols) ≡ Some (record { symbol = s; arity = count }) = ap (with_arity symbols) (own s.number d is.1) ∙ ap (option_map {U = Found} (λ (x : Declared). record { symbol = s; arity = x.arity })) is.1 in
-    then_ok _ _ _ _ (spelled_read bytes t name text letters) (ap (fitting place t.at) looked ∙ ap (λ o. unless o t.at (record { symbol = s; arity = count })) is.0)
+    let f : Found = record { symbol = s; arity = count } in
+    then_ok _ _ _ _ (declared_spelled bytes symbols named name f t is.1 text)
+    (ap (fitting place t.at) (lookup_read symbols own name f is.1) ∙ ap (λ o. unless o t.at f) is.0)
 
 pub counted_read : (at : ℕ) (s : Symbol) (count : ℕ) → checked_arity at (record { symbol = s; arity = count }) count ≡ Ok tt
 unfolding checked_arity

@@ -43,9 +43,15 @@ named_at bytes scope (t ∷ ts) = if kind_is_name t.kind then taken_if (bound (b
 unfoldable pub numbered_at : List ℕ → List Token → Result (Option ℕ × List Token) ReadFault
 numbered_at bytes ts = if next_stray 63 ts then (numeral_at bytes (tail ts) >>= λ x. Ok (Some x.0, x.1)) else Ok (None, ts)
 
+abbrev pub named_leaf : List ℕ → List Binding → Leaf
+named_leaf bytes scope = record { variable = named_at bytes scope; begins = kind_is_name }
+
+abbrev pub numbered_leaf : List ℕ → Leaf
+numbered_leaf bytes = record { variable = numbered_at bytes; begins = λ k. kind_is_name k || kind_is_stray 63 k }
+
 abbrev pub leaf_of : List ℕ → Variables → Leaf
-leaf_of bytes (variables.Named scope) = record { variable = named_at bytes scope.now; begins = kind_is_name }
-leaf_of bytes variables.Numbered = record { variable = numbered_at bytes; begins = λ k. kind_is_name k || kind_is_stray 63 k }
+leaf_of bytes (variables.Named scope) = named_leaf bytes scope.now
+leaf_of bytes variables.Numbered = numbered_leaf bytes
 
 -- ---- terms
 

@@ -12,7 +12,7 @@ use Rattle.dfg_terms.specs.declared.variables.Variables.TheVariants as variables
 use Rattle.dfg_terms.specs.Reading.{◌>>=◌, is_reserved, kind_is_name, next_stray, bytes_of}
 use Rattle.dfg_terms.specs.Numbers.{numeral_at}
 use Rattle.dfg_terms.specs.Scopes.{Binding, bound}
-use Rattle.dfg_terms.specs.Terms.{Leaf, taken_if, named_at, numbered_at, leaf_of}
+use Rattle.dfg_terms.specs.Terms.{Leaf, taken_if, named_at, numbered_at, named_leaf, numbered_leaf, leaf_of}
 use Rattle.dfg_terms.specs.Phrases.{token, stray, IsNumeralOf}
 use Rattle.dfg_terms.specs.Grammar.{Writing, names, numbers, writing_of}
 use Rattle.dfg_terms.specs.ResultLaws.{bind_ok, chosen, ok_is, then_ok, when_true, when_false}
@@ -128,16 +128,18 @@ module _ (bytes : List ℕ) where
 
 -- ---- both
 
-pub variables_agree : (bytes : List ℕ) (v : Variables) → Agrees (leaf_of bytes v) (writing_of bytes v)
-variables_agree bytes (variables.Named scope) = record {
-  stands = named_stands bytes scope.now;
-  same = named_same bytes scope.now;
-  free = named_free bytes scope.now;
-  read = named_read bytes scope.now;
-  passed = named_passed bytes scope.now;
+pub names_agree : (bytes : List ℕ) (scope : List Binding) → Agrees (named_leaf bytes scope) (names bytes scope)
+names_agree bytes scope = record {
+  stands = named_stands bytes scope;
+  same = named_same bytes scope;
+  free = named_free bytes scope;
+  read = named_read bytes scope;
+  passed = named_passed bytes scope;
   takes = λ n. token_takes _;
 }
-variables_agree bytes variables.Numbered = record {
+
+pub numbers_agree : (bytes : List ℕ) → Agrees (numbered_leaf bytes) (numbers bytes)
+numbers_agree bytes = record {
   stands = numbered_stands bytes;
   same = numbered_same bytes;
   free = λ t ts rest k e. tt;
@@ -145,3 +147,7 @@ variables_agree bytes variables.Numbered = record {
   passed = λ w t ts k r free. numbered_passed bytes w t ts k;
   takes = λ n. then_takes (stray 63) (token (IsNumeralOf bytes n)) (token_takes _) (weaken (token (IsNumeralOf bytes n)) (token_takes _));
 }
+
+pub variables_agree : (bytes : List ℕ) (v : Variables) → Agrees (leaf_of bytes v) (writing_of bytes v)
+variables_agree bytes (variables.Named scope) = names_agree bytes scope.now
+variables_agree bytes variables.Numbered = numbers_agree bytes

@@ -2,7 +2,7 @@ use Rattle.dfg_terms.specs.Terms.{leaf_of, term_in}
 use Rattle.dfg_terms.specs.Grammar.{writing_of, IsTermIn}
 use Rattle.dfg_terms.specs.VariableLaws.{variables_agree}
 use Rattle.dfg_terms.specs.TermLaws.{term_stands, term_read, term_takes, atom_stands, atom_read}
-use Rattle.dfg_terms.proofs.Written.{given_holds, given_so}
+use Rattle.dfg_terms.specs.GivenLaws.{given_holds, given_so}
 use Rattle.dfg_terms.proofs.terms.atom.Goals as goal
 
 pub returns-clause-written : goal.returns-clause-written

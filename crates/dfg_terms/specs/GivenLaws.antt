@@ -1,4 +1,4 @@
--- What a function gives is written so, and what is written it gives.
+-- Laws with their proofs, not definitions that a reader must believe: what a function gives is written so, and what is written it gives.
 use Rattle.std.proofs.Common.{◌≡◌, Result, Ok, Err, subst}
 use Rattle.std.specs.Prelude.{IfOk}
 use Rattle.dfg_terms.specs.declared.fault.ReadFault.{ReadFault}

@@ -1,0 +1,9 @@
+pub mod Shapes
+pub mod Quantifiers
+pub mod Formulas
+pub mod Grammar
+pub mod HeadLaws
+pub mod ItemLaws
+pub mod BindingLaws
+pub mod FormulaLaws
+pub mod FormulaReadLaws

@@ -1,0 +1,12 @@
+//! Formulas and clauses of DFG syntax from their tokens, or the first fault with its place.
+//!
+//! The rules are those of SPASS Input Syntax 1.5 in the form that `docs/grammar.md` states.
+#![tactic(auto)]
+
+mod build;
+mod formulas;
+mod items;
+mod shape;
+
+pub use formulas::{Level, Text, formula};
+pub use shape::Shape;
