@@ -65,6 +65,7 @@ fn is_right(alloc: Global, row: &Row) -> Result<bool, AllocError> {
         "sorts" => inferences::sorts(alloc, row),
         "unsolved" => inferences::unsolved(alloc, row),
         "subsumes" => subsumption::subsumed(alloc, row),
+        "candidates" => subsumption::candidates(alloc, row),
         "proof" => steps::proof(alloc, row),
         _ => is_right_beside(alloc, row),
     }
