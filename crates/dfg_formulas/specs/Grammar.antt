@@ -19,8 +19,8 @@ use Rattle.dfg_terms.specs.Grammar.{names, term, atom}
 use Rattle.dfg_formulas.specs.declared.shape.Shape.{Shape}
 use Rattle.dfg_formulas.specs.declared.shape.Connective.{Connective}
 use Rattle.dfg_formulas.specs.declared.shape.Connective.TheVariants as connectives
-use Rattle.dfg_formulas.specs.declared.formulas.Text.{Text}
-use Rattle.dfg_formulas.specs.declared.formulas.Level.{Level}
+use Rattle.dfg_formulas.specs.declared.reader.Text.{Text}
+use Rattle.dfg_formulas.specs.declared.reader.Level.{Level}
 use Rattle.dfg_formulas.specs.Shapes.{parts}
 use Rattle.dfg_formulas.specs.Quantifiers.{Item, of_sort, quantified}
 use Rattle.dfg_formulas.specs.Formulas.{is_of_atoms, joined, pair_of}

@@ -6,7 +6,7 @@ ghost use Rattle.dfg_formulas.specs.Formulas.{is_of_atoms, may_be_sort, sort_if,
 ghost use Rattle.dfg_formulas.specs.Quantifiers.{of_sort};
 
 use crate::build::sort_atom;
-use crate::formulas::Text;
+use crate::reader::Text;
 use dfg_terms::{
     FaultKind, Found, InputError, ReadFault, Scope, bytes_of, lookup, mark, name, next_is_mark,
     spelled_name, unexpected,

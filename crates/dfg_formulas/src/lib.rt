@@ -4,9 +4,9 @@
 #![tactic(auto)]
 
 mod build;
-mod formulas;
 mod items;
+mod reader;
 mod shape;
 
-pub use formulas::{Level, Text, formula};
+pub use reader::{Level, Text, formula};
 pub use shape::Shape;

@@ -3,7 +3,7 @@ use Rattle.dfg_terms.specs.GivenLaws.{given_holds, given_so}
 use Rattle.dfg_formulas.specs.Grammar.{binding_count}
 use Rattle.dfg_formulas.specs.FormulaLaws.{formula_stands}
 use Rattle.dfg_formulas.specs.FormulaReadLaws.{formula_read}
-use Rattle.dfg_formulas.proofs.formulas.formula.Goals as goal
+use Rattle.dfg_formulas.proofs.reader.formula.Goals as goal
 
 pub returns-clause-written : goal.returns-clause-written
 returns-clause-written c =

@@ -1,7 +1,7 @@
 use Rattle.std.proofs.Common.{◌≡◌, ◌-◌, ◌+◌, ◌*◌, [], length}
 use Rattle.dfg_terms.specs.Reading.{commas}
 use Rattle.dfg_formulas.specs.Formulas.{adding_part, formula_at}
-use Rattle.dfg_formulas.proofs.formulas.+formula.Given as goal
+use Rattle.dfg_formulas.proofs.reader.+formula.Given as goal
 
 abbrev pub decreases-formula_within : goal.decreases-formula_within
 decreases-formula_within l = 9 * l.level.depth
