@@ -1,3 +1,4 @@
 pub mod Saturated
 pub mod Counted
 pub mod Sizes
+pub mod Within

@@ -9,3 +9,4 @@ pub mod Entries
 pub mod AtomTests
 pub mod Bindings
 pub mod BindingLaws
+pub mod Ascending
