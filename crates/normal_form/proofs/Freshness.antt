@@ -1,22 +1,18 @@
 -- Bindings that no block has yet: what holds of them at the parts of a formula, and behind a quantifier.
-use Rattle.std.proofs.Common.{◌≡◌, inl, inr, ℕ, zero, suc, ◌+◌, ◌-◌, ◌<◌, ◌≤◌, Bool, true, false, ◌&&◌, ◌||◌, ◌==◌, nat_le, nat_lt, if◌then◌else◌, List, [], ◌∷◌, ◌++◌, map, fold, get_or, length, arith, refl, sym, subst, ap, ◌∙◌, append_assoc}
-use Rattle.std.specs.List.{list_any, concat, filter, flat_map}
+use Rattle.std.proofs.Common.{◌≡◌, inl, inr, ℕ, zero, suc, ◌+◌, ◌-◌, ◌<◌, ◌≤◌, Bool, true, false, ◌&&◌, ◌||◌, ◌==◌, nat_le, nat_lt, if◌then◌else◌, List, [], ◌∷◌, ◌++◌, fold, get_or, length, arith, refl, sym, subst, ap, ◌∙◌, append_assoc}
+use Rattle.std.specs.List.{list_any, filter, flat_map}
 use Rattle.std.proofs.lemmas.Bool.{eqb-true, eq-eqb, or_cases, or_left, or_right, or_from, or_parts, cases_lt, and_parts, and_from, leb-true, ltb-true, le-leb, lt-ltb, cases_eq, false≢true, false_from_ne_true}
 use Rattle.std.proofs.lemmas.List.Folds.{list_any-append}
 use Rattle.std.proofs.lemmas.List.Elements.{filter-append}
 use Rattle.spl_terms.specs.declared.term.Term.{Term, Var}
 use Rattle.spl_terms.specs.Terms.{term_variables}
-use Rattle.formulas.specs.declared.tree.Tree as tree
-use Rattle.formulas.specs.declared.tree.Tree.{Tree, Tree-F}
-use Rattle.formulas.specs.declared.tree.Tree.TheOpen as layer
-use Rattle.formulas.specs.declared.tree.Tree.TheViews.{roll-Tree, rolls-Not, rolls-And, rolls-Or, rolls-Implies, rolls-Equiv, rolls-Forall, rolls-Exists}
-use Rattle.formulas.specs.declared.tree.Tree.TheFolds.{map-Tree, fold-roll-Tree}
+use Rattle.formulas.specs.declared.tree.Tree.{Tree}
 use Rattle.formulas.specs.Trees.{foralls, exists}
 use Rattle.formulas.specs.Negations.{signed_form}
 use Rattle.normal_form.specs.declared.scope.Block.{Block}
 use Rattle.normal_form.specs.Skolem.{skolem_arguments}
 use Rattle.formulas.specs.BindingLaws.{bindings-foralls, bindings-exists}
-use Rattle.formulas.specs.Bindings.{is_member, bindings_step, bindings, all_distinct, numbers_from}
+use Rattle.formulas.specs.Bindings.{is_member, bindings, all_distinct, numbers_from}
 use Rattle.normal_form.specs.Occurring.{occurring}
 use Rattle.normal_form.specs.Blocks.{has_variable, with_block, term_in, is_universal, scope_in, place_below, for_any, own_term}
 use Rattle.normal_form.specs.Walking.{AreFresh, arguments_in}

@@ -1,13 +1,12 @@
 -- The laws: the clauses of the normal form stand for the formulas, and there are as many as are counted.
-use Rattle.std.specs.Prelude.{◌≡◌, ℕ, Bool, true, false, not, ◌&&◌, ◌||◌, ◌==◌, nat_lt, List, [], ◌∷◌, ◌++◌, Contains, length}
-use Rattle.std.specs.List.{list_any, list_all, concat}
+use Rattle.std.specs.Prelude.{◌≡◌, ℕ, Bool, true, false, ◌&&◌, nat_lt, List, Contains, length}
+use Rattle.std.specs.List.{list_all}
 use Rattle.spl_terms.specs.declared.term.Term.{Term, Term-F, fold-Term}
 use Rattle.spl_terms.specs.declared.term.Term.TheOpen as term_layer
 use Rattle.spl_terms.specs.declared.atom.Atom.{Atom}
-use Rattle.spl_terms.specs.Clauses.{atom_terms, atom_variables}
-use Rattle.formulas.specs.declared.tree.Tree.{Tree, Tree-F, fold-Tree}
-use Rattle.formulas.specs.declared.tree.Tree.TheOpen as layer
-use Rattle.formulas.specs.Bindings.{is_member, is_free, bindings, all_distinct}
+use Rattle.spl_terms.specs.Clauses.{atom_terms}
+use Rattle.formulas.specs.declared.tree.Tree.{Tree}
+use Rattle.formulas.specs.Bindings.{is_free, bindings, all_distinct}
 use Rattle.formulas.specs.AtomTests.{all_atoms}
 use Rattle.formulas.specs.Negations.{Form}
 use Rattle.formulas.specs.Counts.{clause_count}

@@ -13,7 +13,7 @@ use std::alloc::AllocError;
 /// Appends the variables of a term.
 #[cycle(term)]
 #[tactic(auto, using(crate::proofs::Terms::variable_laws))]
-pub fn add_term_variables(term: &Term, found: &mut Items<u32>) -> Result<(), AllocError>
+fn add_term_variables(term: &Term, found: &mut Items<u32>) -> Result<(), AllocError>
     ensures { OnOk result (found.new ≡ found.old ++ term_variables term.now) }
 {
     match term {

@@ -2,6 +2,7 @@
 //! bars. It is printed, and behind it what came of the case; a line without bars is only printed.
 #![tactic(auto)]
 
+mod forms;
 mod pieces;
 mod problems;
 mod proof_lines;
@@ -9,6 +10,7 @@ mod streams;
 mod trees;
 mod words;
 
+use formulas::Role;
 use pieces::expanded;
 use std::io;
 
@@ -25,6 +27,8 @@ fn show_text(rt: &HostRuntime, what: &str, text: &str) -> io::Result<()> {
         "name" => words::show_name(rt, bytes),
         "spelling" => words::show_spelling(rt),
         "formula" => trees::show_formula(rt, alloc, bytes),
+        "form" => forms::show_form(rt, alloc, Role::Axiom, bytes),
+        "conjecture" => forms::show_form(rt, alloc, Role::Conjecture, bytes),
         _ => proof_lines::show_proof(rt, alloc),
     }
 }

@@ -1,4 +1,4 @@
-use Rattle.std.proofs.Common.{ap, sym, ◌∙◌, arith}
+use Rattle.std.proofs.Common.{ap, arith}
 use Rattle.spl_terms.specs.Terms.{term_symbols}
 use Rattle.spl_terms.specs.TermLaws.{term_symbols-Var}
 use Rattle.normal_form.proofs.Whole.{skolem_size}

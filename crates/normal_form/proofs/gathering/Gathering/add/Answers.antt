@@ -1,7 +1,7 @@
-use Rattle.std.proofs.Common.{◌≡◌, ◌+◌, true, false, sym, ap, ◌∙◌, arith}
+use Rattle.std.proofs.Common.{◌≡◌, false, sym, ap, ◌∙◌, arith}
 use Rattle.std.specs.List.{list_any}
 use Rattle.spl_terms.specs.Clauses.{clause_symbols, is_same, part_of}
-use Rattle.spl_terms.specs.SizeLaws.{with_atom-repeated, with_atom-new}
+use Rattle.spl_terms.specs.SizeLaws.{with_atom-new}
 use Rattle.normal_form.proofs.gathering.Gathering.add.Goals as goal
 
 pub push_new-requires-clause-counted : goal.push_new-requires-clause-counted
