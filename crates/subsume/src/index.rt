@@ -4,10 +4,10 @@ ghost use Rattle.spl_terms.specs.declared.clause.Clause.{Clause};
 ghost use Rattle.spl_truth.specs.Redundancy.{Subsumes};
 ghost use Rattle.subsume.specs.Features.{features};
 ghost use Rattle.subsume.specs.Tries.{AreAtMost};
-ghost use Rattle.subsume.specs.Held.{IsIn, AreFound, IsUnder, IsAlsoHeld, IsNoLongerHeld, IsStillNotHeld};
+ghost use Rattle.subsume.specs.Held.{IsInSlot, AreFound, IsUnder, IsAlsoHeld, IsNoLongerHeld, IsStillNotHeld};
 
 use crate::features::features;
-use crate::slots::{Held, add_keys, slot_of};
+use crate::slots::{HeldClause, add_keys, slot_of};
 use crate::trie::Trie;
 use spl_terms::Clause;
 use std::alloc::{AllocError, Global};
@@ -22,7 +22,7 @@ pub struct FeatureIndex {
     /// The features of each clause that is held, and behind them its slot.
     trie: Trie,
     /// The clauses with their keys; a slot from which one was removed stays empty.
-    slots: Vec<Option<Held>>,
+    slots: Vec<Option<HeldClause>>,
     alloc: Global,
 }
 
@@ -32,7 +32,7 @@ impl Model for FeatureIndex {
     ghost use Rattle.spl_terms.specs.contracts.term.Term as term;
     ghost use Rattle.spl_terms.specs.declared.clause.Clause.{Clause};
     ghost use Rattle.subsume.specs.Held.{held_pairs};
-    ghost use Rattle.subsume.specs.Filed.{IsFiled};
+    ghost use Rattle.subsume.specs.Filed.{IsFeatureIndex};
 
     ghost Value = { List (Clause × ℕ) };
 
@@ -40,18 +40,18 @@ impl Model for FeatureIndex {
 
     ghost view = { λ i. held_pairs i.slots.items };
 
-    ghost invariant = { IsFiled };
+    ghost invariant = { IsFeatureIndex };
 }
 
 /// The keys in the slots to which counts within these limits lead.
 fn keys_within(
     alloc: Global,
     trie: &Trie,
-    slots: &[Option<Held>],
+    slots: &[Option<HeldClause>],
     limits: &[u32],
 ) -> Result<Vec<u32>, AllocError>
-    ensures all { IfOk result (λ keys. (fs : List ℕ) (slot : ℕ) (c : Clause) (k : ℕ) → AreAtMost fs limits.now → IsUnder trie.now fs slot → IsIn slots.now slot c k → Contains keys.items k) }
-    ensures held { IfOk result (λ keys. (k : ℕ) → Contains keys.items k → (slot : ℕ) × (c : Clause) × IsIn slots.now slot c k) }
+    ensures all { IfOk result (λ keys. (fs : List ℕ) (slot : ℕ) (c : Clause) (k : ℕ) → AreAtMost fs limits.now → IsUnder trie.now fs slot → IsInSlot slots.now slot c k → Contains keys.items k) }
+    ensures held { IfOk result (λ keys. (k : ℕ) → Contains keys.items k → (slot : ℕ) × (c : Clause) × IsInSlot slots.now slot c k) }
 {
     let mut leaves = Vec::new(alloc);
     trie.add_reached(0, limits, &mut leaves)?;
@@ -92,7 +92,7 @@ impl FeatureIndex {
         if slot > 4_294_967_294 {
             return Err(AllocError);
         }
-        let held = Held {
+        let held = HeldClause {
             clause: clause.copy(self.alloc)?,
             key,
         };
