@@ -50,8 +50,11 @@ fn keys_within(
     slots: &[Option<HeldClause>],
     limits: &[u32],
 ) -> Result<Vec<u32>, AllocError>
-    ensures all { IfOk result (λ keys. (fs : List ℕ) (slot : ℕ) (c : Clause) (k : ℕ) → AreAtMost fs limits.now → IsUnder trie.now fs slot → IsInSlot slots.now slot c k → Contains keys.items k) }
-    ensures held { IfOk result (λ keys. (k : ℕ) → Contains keys.items k → (slot : ℕ) × (c : Clause) × IsInSlot slots.now slot c k) }
+    ensures all { IfOk result (λ keys. (fs : List ℕ) (slot : ℕ) (c : Clause) (k : ℕ)
+        → AreAtMost fs limits.now → IsUnder trie.now fs slot → IsInSlot slots.now slot c k
+        → Contains keys.items k) }
+    ensures held { IfOk result (λ keys. (k : ℕ) → Contains keys.items k
+        → (slot : ℕ) × (c : Clause) × IsInSlot slots.now slot c k) }
 {
     let mut leaves = Vec::new(alloc);
     trie.add_reached(0, limits, &mut leaves)?;
@@ -78,7 +81,8 @@ impl FeatureIndex {
     ///
     /// # Errors
     ///
-    /// Only where there is no memory, or more than 4,294,967,295 pairs were inserted. The same pairs are held then as before.
+    /// Only where there is no memory, or more than 4,294,967,295 pairs were inserted. Then the same pairs are held as
+    /// before.
     pub fn insert(&mut self, clause: &Clause, key: u32) -> Result<(), AllocError>
         ensures ok { OnOk result (IsAlsoHeld self.old self.new clause.now key) }
         ensures err { OnErr result (self.new ≡ self.old) }
@@ -130,8 +134,10 @@ impl FeatureIndex {
     ///
     /// Only where there is no memory.
     pub fn candidates(&self, clause: &Clause) -> Result<Vec<u32>, AllocError>
-        ensures subsuming { IfOk result (λ keys. (c : Clause) (k : ℕ) → Contains self.now (c, k) → Subsumes c clause.now → Contains keys.items k) }
-        ensures held { IfOk result (λ keys. (k : ℕ) → Contains keys.items k → (c : Clause) × Contains self.now (c, k)) }
+        ensures subsuming { IfOk result (λ keys. (c : Clause) (k : ℕ)
+            → Contains self.now (c, k) → Subsumes c clause.now → Contains keys.items k) }
+        ensures held { IfOk result (λ keys. (k : ℕ) → Contains keys.items k
+            → (c : Clause) × Contains self.now (c, k)) }
     {
         let limits = features(clause);
         let keys = keys_within(self.alloc, &self.trie, self.slots.as_slice(), &limits)?;

@@ -32,7 +32,9 @@ fn held_at(slots: &[Option<HeldClause>], slot: u32) -> Option<&HeldClause>
 
 /// Whether the slot has this clause with this key.
 fn is_in(slots: &[Option<HeldClause>], slot: u32, clause: &Clause, key: u32) -> bool
-    ensures { MatchBool result (IsInSlot slots.now slot clause.now key) (IsInSlot slots.now slot clause.now key → ⊥) }
+    ensures { MatchBool result
+        (IsInSlot slots.now slot clause.now key)
+        (IsInSlot slots.now slot clause.now key → ⊥) }
 {
     match held_at(slots, slot) {
         Some(held) => {
@@ -96,7 +98,8 @@ pub(crate) fn slot_of(
 fn add_key(slots: &[Option<HeldClause>], slot: u32, keys: &mut Vec<u32>) -> Result<(), AllocError>
     ensures kept { OnOk result ((k : ℕ) → Contains keys.old.items k → Contains keys.new.items k) }
     ensures own { OnOk result ((c : Clause) (k : ℕ) → IsInSlot slots.now slot c k → Contains keys.new.items k) }
-    ensures held { OnOk result ((k : ℕ) → Contains keys.new.items k → Contains keys.old.items k ⊎ ((c : Clause) × IsInSlot slots.now slot c k)) }
+    ensures held { OnOk result ((k : ℕ) → Contains keys.new.items k
+        → Contains keys.old.items k ⊎ ((c : Clause) × IsInSlot slots.now slot c k)) }
 {
     match held_at(slots, slot) {
         Some(held) => {
@@ -115,8 +118,10 @@ pub(crate) fn add_keys(
     keys: &mut Vec<u32>,
 ) -> Result<(), AllocError>
     ensures kept { OnOk result ((k : ℕ) → Contains keys.old.items k → Contains keys.new.items k) }
-    ensures below { OnOk result ((slot m : ℕ) (c : Clause) (k : ℕ) → IsChildFor trie.now leaf slot m → IsInSlot slots.now slot c k → Contains keys.new.items k) }
-    ensures held { OnOk result ((k : ℕ) → Contains keys.new.items k → Contains keys.old.items k ⊎ ((slot : ℕ) × (c : Clause) × IsInSlot slots.now slot c k)) }
+    ensures below { OnOk result ((slot m : ℕ) (c : Clause) (k : ℕ)
+        → IsChildFor trie.now leaf slot m → IsInSlot slots.now slot c k → Contains keys.new.items k) }
+    ensures held { OnOk result ((k : ℕ) → Contains keys.new.items k
+        → Contains keys.old.items k ⊎ ((slot : ℕ) × (c : Clause) × IsInSlot slots.now slot c k)) }
 {
     let mut place = trie.first(leaf);
     while place != 0 {

@@ -194,7 +194,8 @@ impl Trie {
     ) -> Result<(), AllocError>
         requires { slice_get self.now place ≡ Some node }
         ensures kept { OnOk result ((v : ℕ) → Contains out.old.items v → Contains out.new.items v) }
-        ensures all { OnOk result ((f : ℕ) → f ≤ limit → IsChildFor self.now n f place → HasReached self.now place rest.now out.new.items) }
+        ensures all { OnOk result ((f : ℕ) → f ≤ limit → IsChildFor self.now n f place
+            → HasReached self.now place rest.now out.new.items) }
     {
         if node.parent != n {
             return Ok(());
