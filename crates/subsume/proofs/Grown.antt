@@ -15,7 +15,7 @@ use Rattle.spl_terms.specs.SameLaws.{flipped, same_cases}
 use Rattle.spl_terms.specs.TermLaws.{Each, term_induction, replace-App}
 use Rattle.spl_truth.specs.Redundancy.{MapsApart, Subsumes}
 use Rattle.subsume.specs.Tries.{AreAtMost}
-use Rattle.subsume.specs.Features.{symbol_numbers, atom_numbers, numbers_of, counted, atom_counts, features}
+use Rattle.subsume.specs.Features.{symbol_numbers, atom_numbers, numbers_of, symbol_counted, atom_counts, features}
 use Rattle.subsume.proofs.Numbers.{numbers_Var, numbers_App}
 use Rattle.subsume.proofs.Sums.{mapped_sums, mapped_length}
 
@@ -68,12 +68,12 @@ abbrev is_of : ℕ → ℕ → ℕ → Bool
 is_of base q x = (base + x % 8) == q
 
 module _ (base q : ℕ) where
-  counted_long : (cs : List ℕ) (x : ℕ) → length (counted base cs x) ≡ length cs
-  unfolding counted
+  counted_long : (cs : List ℕ) (x : ℕ) → length (symbol_counted base cs x) ≡ length cs
+  unfolding symbol_counted
   counted_long cs x = length-set cs (base + x % 8) _
 
-  counted_once : (cs : List ℕ) (x : ℕ) → base + 8 ≤ length cs → get_or cs q 0 ≤ 4294967295 → get_or (counted base cs x) q 0 ≡ min (get_or cs q 0 + (if is_of base q x then 1 else 0)) 4294967295
-  unfolding counted
+  counted_once : (cs : List ℕ) (x : ℕ) → base + 8 ≤ length cs → get_or cs q 0 ≤ 4294967295 → get_or (symbol_counted base cs x) q 0 ≡ min (get_or cs q 0 + (if is_of base q x then 1 else 0)) 4294967295
+  unfolding symbol_counted
   counted_once cs x long low = by_test ((base + x % 8) == q) refl
     where
       other : q ≡ base + x % 8 → ((base + x % 8) == q) ≡ false → ⊥
@@ -87,15 +87,15 @@ module _ (base q : ℕ) where
           ∙ ap (λ n. min (get_or cs n 0 + 1) 4294967295) same
       by_test false e = get_or-set_other cs (base + x % 8) q _ 0 (λ s. other s e) ∙ omega (arith, low)
 
-  counted_long_all : (cs xs : List ℕ) → length (fold (counted base) cs xs) ≡ length cs
+  counted_long_all : (cs xs : List ℕ) → length (fold (symbol_counted base) cs xs) ≡ length cs
   counted_long_all cs [] = refl
-  counted_long_all cs (x ∷ xs) = counted_long_all (counted base cs x) xs ∙ counted_long cs x
+  counted_long_all cs (x ∷ xs) = counted_long_all (symbol_counted base cs x) xs ∙ counted_long cs x
 
-  counted_all : (cs xs : List ℕ) → base + 8 ≤ length cs → get_or cs q 0 ≤ 4294967295 → get_or (fold (counted base) cs xs) q 0 ≡ min (get_or cs q 0 + count_by (is_of base q) xs) 4294967295
+  counted_all : (cs xs : List ℕ) → base + 8 ≤ length cs → get_or cs q 0 ≤ 4294967295 → get_or (fold (symbol_counted base) cs xs) q 0 ≡ min (get_or cs q 0 + count_by (is_of base q) xs) 4294967295
   counted_all cs [] long low = omega (arith, low)
   counted_all cs (x ∷ xs) long low =
       let one = counted_once cs x long low in
-      let all = counted_all (counted base cs x) xs (omega (arith, long, counted_long cs x)) (omega (arith, one)) in
+      let all = counted_all (symbol_counted base cs x) xs (omega (arith, long, counted_long cs x)) (omega (arith, one)) in
       omega (arith, all, one, count_first (is_of base q) x xs)
 
 -- ---- all counts
@@ -120,10 +120,10 @@ start_low c (suc (suc (suc q))) = omega (arith, zeros 16 q)
 
 module _ (c : Clause) where
   before : List ℕ
-  before = fold (counted 3) (atom_counts c) (numbers_of c.constraint)
+  before = fold (symbol_counted 3) (atom_counts c) (numbers_of c.constraint)
 
   middle : List ℕ
-  middle = fold (counted 3) before (numbers_of c.antecedent)
+  middle = fold (symbol_counted 3) before (numbers_of c.antecedent)
 
   before_long : length before ≡ 19
   unfolding before

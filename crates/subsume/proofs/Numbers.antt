@@ -1,4 +1,4 @@
--- The numbers of the symbols of terms, and how they are counted.
+-- The numbers of the symbols of terms, and how they are symbol_counted.
 use Rattle.std.proofs.Common.{◌≡◌, ℕ, List, [], ◌∷◌, ◌++◌, map, refl, ap, ◌∙◌}
 use Rattle.std.specs.List.{concat, flat_map}
 use Rattle.std.proofs.lemmas.Grind.{fold-append}

@@ -7,39 +7,39 @@ use Rattle.std.proofs.lemmas.List.{take_more}
 use Rattle.std.proofs.lemmas.List.Elements.{Contains-push}
 use Rattle.spl_terms.specs.ListLaws.{get-left}
 use Rattle.subsume.specs.declared.trie.Node.{Node}
-use Rattle.subsume.specs.Tries.{IsChild, Down, Grows, AreAtMost, HasReached, sibling_or, sibling_in, first_in, Follows, here, on, ChildrenFollow, AreLinked, IsChildOrNone}
+use Rattle.subsume.specs.Tries.{IsChildFor, Down, Grows, AreAtMost, HasReached, sibling_or, sibling_in, first_in, IsInChain, here, on, ChildrenAreInChain, AreLinked, IsChildOrNone}
 
 -- ---- what follows
 
 -- nothing follows 0
-pub nothing_follows : (next : ℕ → ℕ) → next 0 ≡ 0 → (a k : ℕ) → Follows next a k → a ≡ 0 → 0 < k → ⊥
+pub nothing_follows : (next : ℕ → ℕ) → next 0 ≡ 0 → (a k : ℕ) → IsInChain next a k → a ≡ 0 → 0 < k → ⊥
 nothing_follows next ends a k (here n) is more = omega (arith, is, more)
 nothing_follows next ends a k (on b n rest) is more = nothing_follows next ends (next b) n rest (ap next is ∙ ends) more
 
-pub this_or_later : (next : ℕ → ℕ) (a k : ℕ) → Follows next a k → (a ≡ k) ⊎ Follows next (next a) k
+pub this_or_later : (next : ℕ → ℕ) (a k : ℕ) → IsInChain next a k → (a ≡ k) ⊎ IsInChain next (next a) k
 this_or_later next a k (here n) = inl refl
 this_or_later next a k (on b n rest) = inr rest
 
 -- with one more number, that nothing was behind
-still_follows : (next next' : ℕ → ℕ) (new : ℕ) → next 0 ≡ 0 → next new ≡ 0 → ((a : ℕ) → (a ≡ new → ⊥) → next' a ≡ next a) → (a k : ℕ) → Follows next a k → 0 < k → Follows next' a k
+still_follows : (next next' : ℕ → ℕ) (new : ℕ) → next 0 ≡ 0 → next new ≡ 0 → ((a : ℕ) → (a ≡ new → ⊥) → next' a ≡ next a) → (a k : ℕ) → IsInChain next a k → 0 < k → IsInChain next' a k
 still_follows next next' new ends last same a k (here n) more = here n
 still_follows next next' new ends last same a k (on b n rest) more = by_test (b == new) refl (still_follows next next' new ends last same (next b) n rest more)
   where
-    by_test : (t : Bool) → (b == new) ≡ t → Follows next' (next b) n → Follows next' b n
+    by_test : (t : Bool) → (b == new) ≡ t → IsInChain next' (next b) n → IsInChain next' b n
     by_test true e h = absurd (nothing_follows next ends (next b) n rest (ap next (eqb-true b new e) ∙ last) more)
-    by_test false e h = on b n (subst (λ c. Follows next' c n) (sym (same b (λ s. false≢true (sym e ∙ eq-eqb b new s)))) h)
+    by_test false e h = on b n (subst (λ c. IsInChain next' c n) (sym (same b (λ s. false≢true (sym e ∙ eq-eqb b new s)))) h)
 
 -- ---- the child for a count
 
-child_there : (nodes : List Node) (n count m : ℕ) (x : Node) → slice_get nodes m ≡ Some x → IsChild nodes n count m → (x.parent ≡ n) × (x.count ≡ count)
+child_there : (nodes : List Node) (n count m : ℕ) (x : Node) → slice_get nodes m ≡ Some x → IsChildFor nodes n count m → (x.parent ≡ n) × (x.count ≡ count)
 child_there nodes n count m x e h = subst (λ o. IsSomeAnd o (λ y. (y.parent ≡ n) × (y.count ≡ count))) e h.1
 
-child_here : (nodes : List Node) (n count m : ℕ) (x : Node) → 0 < m → slice_get nodes m ≡ Some x → (x.parent ≡ n) × (x.count ≡ count) → IsChild nodes n count m
+child_here : (nodes : List Node) (n count m : ℕ) (x : Node) → 0 < m → slice_get nodes m ≡ Some x → (x.parent ≡ n) × (x.count ≡ count) → IsChildFor nodes n count m
 child_here nodes n count m x more e h = (more, subst (λ o. IsSomeAnd o (λ y. (y.parent ≡ n) × (y.count ≡ count))) (sym e) h)
 
 -- the child, if there is one, is still to come
 abbrev pub IsToCome : List Node → ℕ → ℕ → ℕ → Type 0
-IsToCome nodes n count m = (k : ℕ) → IsChild nodes n count k → Follows (sibling_in nodes) m k
+IsToCome nodes n count m = (k : ℕ) → IsChildFor nodes n count k → IsInChain (sibling_in nodes) m k
 
 pub found_child : (nodes : List Node) (n count m : ℕ) (x : Node) → (m ≡ 0 → ⊥) → Some x ≡ slice_get nodes m → (x.parent ≡ n) × (x.count ≡ count) → IsChildOrNone nodes n count m
 found_child nodes n count m x more e h = record {
@@ -66,13 +66,13 @@ no_node nodes n count m ends e come = record {
   ];
 }
   where
-    not_there : (k : ℕ) → m ≡ k → IsChild nodes n count k → ⊥
+    not_there : (k : ℕ) → m ≡ k → IsChildFor nodes n count k → ⊥
     not_there k same h = subst (λ o. IsSomeAnd o (λ y. (y.parent ≡ n) × (y.count ≡ count))) (ap (slice_get nodes) (sym same) ∙ sym e) h.1
 
 pub later_child : (nodes : List Node) (n count m : ℕ) (x : Node) (test : Bool) → Some x ≡ slice_get nodes m → test ≡ false → ((x.parent ≡ n) × (x.count ≡ count) → test ≡ true) → IsToCome nodes n count m → IsToCome nodes n count x.sibling
 later_child nodes n count m x test e other is come k h = elim (this_or_later (sibling_in nodes) m k (come k h)) [
   | inl same ↦ absurd (false≢true (sym other ∙ is (child_there nodes n count k x (ap (slice_get nodes) (sym same) ∙ sym e) h)))
-  | inr later ↦ subst (λ a. Follows (sibling_in nodes) a k) (ap sibling_or (sym e)) later
+  | inr later ↦ subst (λ a. IsInChain (sibling_in nodes) a k) (ap sibling_or (sym e)) later
 ]
 
 pub falls_from : (nodes : List Node) (m : ℕ) (x : Node) → ((n : ℕ) → 0 < n → sibling_in nodes n < n) → Some x ≡ slice_get nodes m → (m ≡ 0 → ⊥) → x.sibling < m
@@ -108,7 +108,7 @@ by_place P k n f g h = first (nat_lt k n) refl
     first true e = f (ltb-true k n e)
     first false e = second (nat_lt n k) refl (ltb-false k n e)
 
-module _ (nodes : List Node) (firsts : List ℕ) (n count : ℕ) (old : AreLinked nodes firsts) (low : n < length nodes) (none : (m : ℕ) → IsChild nodes n count m → ⊥) where
+module _ (nodes : List Node) (firsts : List ℕ) (n count : ℕ) (old : AreLinked nodes firsts) (low : n < length nodes) (none : (m : ℕ) → IsChildFor nodes n count m → ⊥) where
   abbrev new : Node
   new = record { parent = n; count = count; sibling = first_in firsts n }
 
@@ -119,7 +119,7 @@ module _ (nodes : List Node) (firsts : List ℕ) (n count : ℕ) (old : AreLinke
   firsts' = set (firsts ++ 0 ∷ []) n (length nodes)
 
   -- what a child of the longer list is
-  child_cases : (P : Type 0) (k c m : ℕ) → IsChild nodes' k c m → (m < length nodes → IsChild nodes k c m → P) → (m ≡ length nodes → n ≡ k → count ≡ c → P) → P
+  child_cases : (P : Type 0) (k c m : ℕ) → IsChildFor nodes' k c m → (m < length nodes → IsChildFor nodes k c m → P) → (m ≡ length nodes → n ≡ k → count ≡ c → P) → P
   child_cases P k c m h f g = by_place P m (length nodes)
       (λ less. f less (h.0, subst (λ o. IsSomeAnd o (λ y. (y.parent ≡ k) × (y.count ≡ c))) (get-left nodes (new ∷ []) m less) h.1))
       (λ same. (let p : IsSomeAnd (Some new) (λ y. (y.parent ≡ k) × (y.count ≡ c)) = subst (λ o. IsSomeAnd o (λ y. (y.parent ≡ k) × (y.count ≡ c))) (ap (slice_get nodes') same ∙ get_end nodes new) h.1 in g same p.0 p.1))
@@ -150,14 +150,14 @@ module _ (nodes : List Node) (firsts : List ℕ) (n count : ℕ) (old : AreLinke
   by_equal : (P : Type 0) (k m : ℕ) → (k ≡ m → P) → ((k ≡ m → ⊥) → P) → P
   by_equal P k m f g = by_place P k m (λ less. g (λ e. omega (arith, e, less))) f (λ more. g (λ e. omega (arith, e, more)))
 
-  linked_now : (p : ℕ) → ChildrenFollow nodes' p (first_in firsts' p)
-  linked_now p c m h = child_cases (Follows (sibling_in nodes') (first_in firsts' p) m) p c m h
+  linked_now : (p : ℕ) → ChildrenAreInChain nodes' p (first_in firsts' p)
+  linked_now p c m h = child_cases (IsInChain (sibling_in nodes') (first_in firsts' p) m) p c m h
       (λ less is.
-      let before : Follows (sibling_in nodes') (first_in firsts p) m = still_follows (sibling_in nodes) (sibling_in nodes') (length nodes) old.ends (ap sibling_or (slice_get_past nodes (length nodes) (omega arith))) siblings_same (first_in firsts p) m (old.linked p c m is) is.0 in
-      by_equal (Follows (sibling_in nodes') (first_in firsts' p) m) p n
-      (λ same. subst (λ a. Follows (sibling_in nodes') a m) (sym (ap (first_in firsts') same ∙ first_new)) (on (length nodes) m (subst (λ a. Follows (sibling_in nodes') a m) (ap (first_in firsts) same ∙ sym siblings_new) before)))
-      (λ other. subst (λ a. Follows (sibling_in nodes') a m) (sym (first_same p other)) before))
-      (λ same parent _. subst (λ a. Follows (sibling_in nodes') a m) (same ∙ sym first_new ∙ ap (first_in firsts') parent) (here m))
+      let before : IsInChain (sibling_in nodes') (first_in firsts p) m = still_follows (sibling_in nodes) (sibling_in nodes') (length nodes) old.ends (ap sibling_or (slice_get_past nodes (length nodes) (omega arith))) siblings_same (first_in firsts p) m (old.linked p c m is) is.0 in
+      by_equal (IsInChain (sibling_in nodes') (first_in firsts' p) m) p n
+      (λ same. subst (λ a. IsInChain (sibling_in nodes') a m) (sym (ap (first_in firsts') same ∙ first_new)) (on (length nodes) m (subst (λ a. IsInChain (sibling_in nodes') a m) (ap (first_in firsts) same ∙ sym siblings_new) before)))
+      (λ other. subst (λ a. IsInChain (sibling_in nodes') a m) (sym (first_same p other)) before))
+      (λ same parent _. subst (λ a. IsInChain (sibling_in nodes') a m) (same ∙ sym first_new ∙ ap (first_in firsts') parent) (here m))
 
   pub added_linked : AreLinked nodes' firsts'
   added_linked = record {
@@ -175,13 +175,13 @@ module _ (nodes : List Node) (firsts : List ℕ) (n count : ℕ) (old : AreLinke
     apart = λ k c l m hl hm. child_cases (l ≡ m) k c l hl
         (λ less is. child_cases (l ≡ m) k c m hm
         (λ less' is'. old.apart k c l m is is')
-        (λ same parent counts. absurd (none l (subst (λ p. IsChild nodes p count l) (sym parent) (subst (λ d. IsChild nodes k d l) (sym counts) is)))))
+        (λ same parent counts. absurd (none l (subst (λ p. IsChildFor nodes p count l) (sym parent) (subst (λ d. IsChildFor nodes k d l) (sym counts) is)))))
         (λ same parent counts. child_cases (l ≡ m) k c m hm
-        (λ less' is'. absurd (none m (subst (λ p. IsChild nodes p count m) (sym parent) (subst (λ d. IsChild nodes k d m) (sym counts) is'))))
+        (λ less' is'. absurd (none m (subst (λ p. IsChildFor nodes p count m) (sym parent) (subst (λ d. IsChildFor nodes k d m) (sym counts) is'))))
         (λ same' parent' counts'. same ∙ sym same'));
   }
 
-  pub added_child : IsChild nodes' n count (length nodes) × (length nodes < length nodes')
+  pub added_child : IsChildFor nodes' n count (length nodes) × (length nodes < length nodes')
   added_child = ((omega (arith, low), subst (λ o. IsSomeAnd o (λ y. (y.parent ≡ n) × (y.count ≡ count))) (sym (get_end nodes new)) (refl, refl)), omega (arith, as_long))
 
 pub grows_end : (nodes : List Node) (x : Node) → Grows nodes (nodes ++ x ∷ [])
@@ -189,7 +189,7 @@ grows_end nodes x k y e = get-left nodes (x ∷ []) k (slice_get_within nodes k 
 
 -- ---- paths
 
-pub grown_child : (old later : List Node) (n count m : ℕ) → Grows old later → IsChild old n count m → IsChild later n count m
+pub grown_child : (old later : List Node) (n count m : ℕ) → Grows old later → IsChildFor old n count m → IsChildFor later n count m
 grown_child old later n count m g h = (h.0, at (slice_get old m) refl h.1)
   where
     at : (o : Option Node) → slice_get old m ≡ o → IsSomeAnd o (λ y. (y.parent ≡ n) × (y.count ≡ count)) → IsSomeAnd (slice_get later m) (λ y. (y.parent ≡ n) × (y.count ≡ count))
@@ -200,11 +200,11 @@ pub grown_down : (old later : List Node) (fs : List ℕ) (n l : ℕ) → Grows o
 grown_down old later [] n l g h = h
 grown_down old later (f ∷ fs) n l g h = (h.0, grown_child old later n f h.0 g h.1, grown_down old later fs h.0 l g h.2)
 
-pub down_last : (nodes : List Node) (fs : List ℕ) (n l f m : ℕ) → Down nodes fs n l → IsChild nodes l f m → Down nodes (fs ++ f ∷ []) n m
-down_last nodes [] n l f m h c = (m, subst (λ k. IsChild nodes k f m) (sym h) c, refl)
+pub down_last : (nodes : List Node) (fs : List ℕ) (n l f m : ℕ) → Down nodes fs n l → IsChildFor nodes l f m → Down nodes (fs ++ f ∷ []) n m
+down_last nodes [] n l f m h c = (m, subst (λ k. IsChildFor nodes k f m) (sym h) c, refl)
 down_last nodes (g ∷ fs) n l f m h c = (h.0, h.1, down_last nodes fs h.0 l f m h.2 c)
 
-module _ (nodes nodes2 : List Node) (firsts : List ℕ) (n count place sibling : ℕ) (old : AreLinked nodes firsts) (low : n < length nodes) (none : (m : ℕ) → IsChild nodes n count m → ⊥) (at : place ≡ length nodes) (is : sibling ≡ get_or firsts n 0) (pushed : nodes2 ≡ nodes ++ record { parent = n; count = count; sibling = sibling } ∷ []) where
+module _ (nodes nodes2 : List Node) (firsts : List ℕ) (n count place sibling : ℕ) (old : AreLinked nodes firsts) (low : n < length nodes) (none : (m : ℕ) → IsChildFor nodes n count m → ⊥) (at : place ≡ length nodes) (is : sibling ≡ get_or firsts n 0) (pushed : nodes2 ≡ nodes ++ record { parent = n; count = count; sibling = sibling } ∷ []) where
   made_as : nodes ++ record { parent = n; count = count; sibling = first_in firsts n } ∷ [] ≡ nodes2
   made_as = ap (λ (s : ℕ). nodes ++ record { parent = n; count = count; sibling = s } ∷ []) (unwrap_or-slice_get firsts n 0 ∙ sym is) ∙ sym pushed
 
@@ -214,10 +214,10 @@ module _ (nodes nodes2 : List Node) (firsts : List ℕ) (n count place sibling :
       (subst (λ (p : ℕ). AreLinked nodes2 (set (firsts ++ 0 ∷ []) n p)) (sym at)
       (subst (λ (l : List Node). AreLinked l (set (firsts ++ 0 ∷ []) n (length nodes))) made_as (added_linked nodes firsts n count old low none)))
 
-  pub node_is_child : IsChild nodes2 n count place × (place < length nodes2)
+  pub node_is_child : IsChildFor nodes2 n count place × (place < length nodes2)
   node_is_child =
-      subst (λ (p : ℕ). IsChild nodes2 n count p × (p < length nodes2)) (sym at)
-      (subst (λ (l : List Node). IsChild l n count (length nodes) × (length nodes < length l)) made_as (added_child nodes firsts n count old low none))
+      subst (λ (p : ℕ). IsChildFor nodes2 n count p × (p < length nodes2)) (sym at)
+      (subst (λ (l : List Node). IsChildFor l n count (length nodes) × (length nodes < length l)) made_as (added_child nodes firsts n count old low none))
 
   pub nodes_grow : Grows nodes nodes2
   nodes_grow = subst (Grows nodes) (sym pushed) (grows_end nodes (record { parent = n; count = count; sibling = sibling }))
@@ -229,11 +229,11 @@ read_at (y ∷ xs) (suc k) x h e = read_at xs k x (omega (arith, h)) e
 
 -- what is reached by a child is among these, or the child is still to come
 abbrev pub AreToCome : List Node → ℕ → ℕ → List ℕ → List ℕ → ℕ → Type 0
-AreToCome nodes n limit rest out place = (f : ℕ) (fs : List ℕ) (k l : ℕ) → f ≤ limit → AreAtMost fs rest → IsChild nodes n f k → Down nodes fs k l → Contains out l ⊎ Follows (sibling_in nodes) place k
+AreToCome nodes n limit rest out place = (f : ℕ) (fs : List ℕ) (k l : ℕ) → f ≤ limit → AreAtMost fs rest → IsChildFor nodes n f k → Down nodes fs k l → Contains out l ⊎ IsInChain (sibling_in nodes) place k
 
 -- ---- a path made, count by count
 
-pub down_more : (nodes : List Node) (counts : List ℕ) (i n m : ℕ) → i < length counts → Down nodes (take i counts) 0 n → IsChild nodes n (get_or counts i 0) m → Down nodes (take (i + 1) counts) 0 m
+pub down_more : (nodes : List Node) (counts : List ℕ) (i n m : ℕ) → i < length counts → Down nodes (take i counts) 0 n → IsChildFor nodes n (get_or counts i 0) m → Down nodes (take (i + 1) counts) 0 m
 down_more nodes counts i n m low h c = subst (λ fs. Down nodes fs 0 m) (sym (take_more counts i 0 low)) (down_last nodes (take i counts) 0 n (get_or counts i 0) m h c)
 
 -- ---- all that is reached
@@ -249,7 +249,7 @@ list_parts (x ∷ xs) h = ap (λ l. x ∷ l) (sym (taken xs (suc (length xs) - 1
     taken (x ∷ xs) (suc n) e = ap (λ l. x ∷ l) (taken xs n (omega (arith, e)))
 
 module _ (nodes : List Node) (n limit : ℕ) (rest out : List ℕ) (place : ℕ) (come : AreToCome nodes n limit rest out place) where
-  reached_when : ((k f : ℕ) → IsChild nodes n f k → Follows (sibling_in nodes) place k → ⊥) → HasReached nodes n (limit ∷ rest) out
+  reached_when : ((k f : ℕ) → IsChildFor nodes n f k → IsInChain (sibling_in nodes) place k → ⊥) → HasReached nodes n (limit ∷ rest) out
   reached_when never [] l most down = absurd most
   reached_when never (f ∷ fs) l most down = elim (come f fs down.0 l most.0 most.1 down.1 down.2) [
     | inl before ↦ before
@@ -265,12 +265,12 @@ module _ (nodes : List Node) (n limit : ℕ) (rest out : List ℕ) (place : ℕ)
     | inr more ↦ nothing_follows (sibling_in nodes) ends (sibling_in nodes place) k more (ap sibling_or (sym e)) h.0
   ])
 
-  pub reached_more : (out' : List ℕ) (x : Node) → ((v : ℕ) → Contains out v → Contains out' v) → Some x ≡ slice_get nodes place → ((f : ℕ) → f ≤ limit → IsChild nodes n f place → HasReached nodes place rest out') → AreToCome nodes n limit rest out' x.sibling
+  pub reached_more : (out' : List ℕ) (x : Node) → ((v : ℕ) → Contains out v → Contains out' v) → Some x ≡ slice_get nodes place → ((f : ℕ) → f ≤ limit → IsChildFor nodes n f place → HasReached nodes place rest out') → AreToCome nodes n limit rest out' x.sibling
   reached_more out' x kept e below f fs k l low most child down = elim (come f fs k l low most child down) [
     | inl before ↦ inl (kept l before)
     | inr later ↦ elim (this_or_later (sibling_in nodes) place k later) [
-      | inl same ↦ inl (below f low (subst (IsChild nodes n f) (sym same) child) fs l most (subst (λ p. Down nodes fs p l) (sym same) down))
-      | inr more ↦ inr (subst (λ a. Follows (sibling_in nodes) a k) (ap sibling_or (sym e)) more)
+      | inl same ↦ inl (below f low (subst (IsChildFor nodes n f) (sym same) child) fs l most (subst (λ p. Down nodes fs p l) (sym same) down))
+      | inr more ↦ inr (subst (λ a. IsInChain (sibling_in nodes) a k) (ap sibling_or (sym e)) more)
     ]
   ]
 

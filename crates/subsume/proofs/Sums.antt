@@ -1,4 +1,4 @@
--- What is counted in atoms grows where they are mapped to different places.
+-- What is symbol_counted in atoms grows where they are mapped to different places.
 use Rattle.std.proofs.Common.{◌≡◌, inl, inr, ℕ, zero, suc, ◌<◌, ◌≤◌, true, List, [], ◌∷◌, length, map, sum, sum_by, Option, Some, None, remove, refl, sym, ap, subst, arith}
 use Rattle.std.specs.Prelude.{IsSomeAnd, slice_get}
 use Rattle.std.proofs.lemmas.Option.{slice_get_within, get_or_from_slice_get}

@@ -24,8 +24,8 @@ abbrev pub numbers_of : List Atom → List ℕ
 numbers_of atoms = flat_map atom_numbers atoms
 
 -- one more symbol of this number, counted in its class, up to the last `u32`; the counts of the classes begin at a place
-unfoldable pub counted : ℕ → List ℕ → ℕ → List ℕ
-counted base counts number = slice_set counts (base + number % 8) (min (get_or counts (base + number % 8) 0 + 1) 4294967295)
+unfoldable pub symbol_counted : ℕ → List ℕ → ℕ → List ℕ
+symbol_counted base counts number = slice_set counts (base + number % 8) (min (get_or counts (base + number % 8) 0 + 1) 4294967295)
 
 -- the numbers of atoms, and no symbol yet
 abbrev pub atom_counts : Clause → List ℕ
@@ -33,4 +33,4 @@ atom_counts c = min (length c.constraint) 4294967295 ∷ min (length c.anteceden
 
 -- the numbers of atoms in each part, of symbols before the arrow, by classes, and of symbols after it
 abbrev pub features : Clause → List ℕ
-features c = fold (counted 11) (fold (counted 3) (fold (counted 3) (atom_counts c) (numbers_of c.constraint)) (numbers_of c.antecedent)) (numbers_of c.succedent)
+features c = fold (symbol_counted 11) (fold (symbol_counted 3) (fold (symbol_counted 3) (atom_counts c) (numbers_of c.constraint)) (numbers_of c.antecedent)) (numbers_of c.succedent)

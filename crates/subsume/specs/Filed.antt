@@ -2,5 +2,5 @@
 use Rattle.subsume.specs.declared.index.FeatureIndex.TheInside.{Inside}
 use Rattle.subsume.specs.Held.{AreFound}
 
-abbrev pub IsFiled : Inside → Type 0
-IsFiled i = AreFound i.trie i.slots.items
+abbrev pub IsFeatureIndex : Inside → Type 0
+IsFeatureIndex i = AreFound i.trie i.slots.items

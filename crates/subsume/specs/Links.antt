@@ -2,5 +2,5 @@
 use Rattle.subsume.specs.declared.trie.Trie.TheInside.{Inside}
 use Rattle.subsume.specs.Tries.{AreLinked}
 
-abbrev pub IsLinked : Inside → Type 0
-IsLinked t = AreLinked t.nodes.items t.firsts.items
+abbrev pub IsTrie : Inside → Type 0
+IsTrie t = AreLinked t.nodes.items t.firsts.items

@@ -6,13 +6,13 @@ use Rattle.subsume.specs.declared.trie.Node.{Node}
 -- ---- nodes, by their places in the list; the first one is the root
 
 -- the node m is below n, for this count
-abbrev pub IsChild : List Node → ℕ → ℕ → ℕ → Type 0
-IsChild nodes n count m = (0 < m) × IsSomeAnd (slice_get nodes m) (λ x. (x.parent ≡ n) × (x.count ≡ count))
+abbrev pub IsChildFor : List Node → ℕ → ℕ → ℕ → Type 0
+IsChildFor nodes n count m = (0 < m) × IsSomeAnd (slice_get nodes m) (λ x. (x.parent ≡ n) × (x.count ≡ count))
 
 -- the counts lead from the node n down to the node l
 abbrev pub Down : List Node → List ℕ → ℕ → ℕ → Type 0
 Down nodes [] n l = n ≡ l
-Down nodes (f ∷ fs) n l = (m : ℕ) × IsChild nodes n f m × Down nodes fs m l
+Down nodes (f ∷ fs) n l = (m : ℕ) × IsChildFor nodes n f m × Down nodes fs m l
 
 -- each node stays
 abbrev pub Grows : List Node → List Node → Type 0
@@ -39,13 +39,13 @@ abbrev pub first_in : List ℕ → ℕ → ℕ
 first_in firsts n = unwrap_or (slice_get firsts n) 0
 
 -- from the first number on, one leads to the next, and to the last
-pub data Follows (next : ℕ → ℕ) : ℕ → ℕ → Type 0 where
-  here : (n : ℕ) → Follows next n n
-  on : (a n : ℕ) → Follows next (next a) n → Follows next a n
+pub data IsInChain (next : ℕ → ℕ) : ℕ → ℕ → Type 0 where
+  here : (n : ℕ) → IsInChain next n n
+  on : (a n : ℕ) → IsInChain next (next a) n → IsInChain next a n
 
 -- the children of a node follow its first one
-abbrev pub ChildrenFollow : List Node → ℕ → ℕ → Type 0
-ChildrenFollow nodes n first = (count m : ℕ) → IsChild nodes n count m → Follows (sibling_in nodes) first m
+abbrev pub ChildrenAreInChain : List Node → ℕ → ℕ → Type 0
+ChildrenAreInChain nodes n first = (count m : ℕ) → IsChildFor nodes n count m → IsInChain (sibling_in nodes) first m
 
 -- each node is found from its parent, by numbers that fall, and no other node has its parent and its count
 pub record AreLinked (nodes : List Node) (firsts : List ℕ) : Type 0 where
@@ -53,13 +53,13 @@ pub record AreLinked (nodes : List Node) (firsts : List ℕ) : Type 0 where
   pub ends : sibling_in nodes 0 ≡ 0
   pub falls : (n : ℕ) → 0 < n → sibling_in nodes n < n
   pub within : (n : ℕ) → 0 < first_in firsts n → first_in firsts n < length nodes
-  pub linked : (n : ℕ) → ChildrenFollow nodes n (first_in firsts n)
-  pub apart : (n count l m : ℕ) → IsChild nodes n count l → IsChild nodes n count m → l ≡ m
+  pub linked : (n : ℕ) → ChildrenAreInChain nodes n (first_in firsts n)
+  pub apart : (n count l m : ℕ) → IsChildFor nodes n count l → IsChildFor nodes n count m → l ≡ m
 
 -- the node is the child for this count; 0 where there is none
 pub record IsChildOrNone (nodes : List Node) (n count m : ℕ) : Type 0 where
-  pub some : 0 < m → IsChild nodes n count m
-  pub none : m ≡ 0 → (k : ℕ) → IsChild nodes n count k → ⊥
+  pub some : 0 < m → IsChildFor nodes n count m
+  pub none : m ≡ 0 → (k : ℕ) → IsChildFor nodes n count k → ⊥
 
 -- each node to which counts within the limits lead is among these
 abbrev pub HasReached : List Node → ℕ → List ℕ → List ℕ → Type 0

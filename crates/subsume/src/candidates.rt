@@ -44,7 +44,8 @@ pub(crate) fn add_atoms<'a>(
     first: usize,
     list: &mut Vec<AtomToMap<'a>>,
 ) -> Result<bool, AllocError>
-    ensures added { IfOk result (λ yes. yes ≡ true → plain list.new.items ≡ plain list.old.items ++ to_map atoms.now targets.now first) }
+    ensures added { IfOk result (λ yes. yes ≡ true
+        → plain list.new.items ≡ plain list.old.items ++ to_map atoms.now targets.now first) }
     ensures none { IfOk result (λ yes. yes ≡ false → (g : ℕ → Term) → MapsApart g atoms.now targets.now → ⊥) }
 {
     for atom in atoms {

@@ -1,7 +1,7 @@
 //! Counts by which clauses that can't subsume another one are passed over.
 ghost use Rattle.std.specs.Prelude.{◌≡◌, ◌+◌, ◌≤◌, min, length, fold};
 ghost use Rattle.std.specs.List.{flat_map};
-ghost use Rattle.subsume.specs.Features.{symbol_numbers, atom_numbers, numbers_of, counted, features};
+ghost use Rattle.subsume.specs.Features.{symbol_numbers, atom_numbers, numbers_of, symbol_counted, features};
 
 use spl_terms::{Atom, Clause, Term};
 
@@ -16,10 +16,10 @@ fn clipped(count: usize) -> u32
 }
 
 /// Counts one more symbol of this number.
-#[tactic(auto, unfolding(crate::specs::Features::counted))]
+#[tactic(auto, unfolding(crate::specs::Features::symbol_counted))]
 fn count_symbol(base: usize, number: u32, counts: &mut [u32])
     requires { base + 8 ≤ length counts.old }
-    ensures { counts.new ≡ counted base counts.old number }
+    ensures { counts.new ≡ symbol_counted base counts.old number }
 {
     let class = base + (number % 8) as usize;
     counts[class] = counts[class].saturating_add(1);
@@ -30,7 +30,7 @@ fn count_symbol(base: usize, number: u32, counts: &mut [u32])
 #[tactic(auto, using(crate::proofs::Numbers::number_laws))]
 fn count_term(base: usize, term: &Term, counts: &mut [u32])
     requires { base + 8 ≤ length counts.old }
-    ensures { counts.new ≡ fold (counted base) counts.old (symbol_numbers term.now) }
+    ensures { counts.new ≡ fold (symbol_counted base) counts.old (symbol_numbers term.now) }
 {
     match term {
         Term::Var(_) => {}
@@ -46,7 +46,7 @@ fn count_term(base: usize, term: &Term, counts: &mut [u32])
 #[tactic(auto, using(crate::proofs::Numbers::number_laws))]
 fn count_terms(base: usize, terms: &[Term], counts: &mut [u32])
     requires { base + 8 ≤ length counts.old }
-    ensures { counts.new ≡ fold (counted base) counts.old (flat_map symbol_numbers terms.now) }
+    ensures { counts.new ≡ fold (symbol_counted base) counts.old (flat_map symbol_numbers terms.now) }
 {
     for term in terms {
         count_term(base, term, counts);
@@ -57,7 +57,7 @@ fn count_terms(base: usize, terms: &[Term], counts: &mut [u32])
 #[tactic(auto, using(crate::proofs::Numbers::number_laws))]
 fn count_atom(base: usize, atom: &Atom, counts: &mut [u32])
     requires { base + 8 ≤ length counts.old }
-    ensures { counts.new ≡ fold (counted base) counts.old (atom_numbers atom.now) }
+    ensures { counts.new ≡ fold (symbol_counted base) counts.old (atom_numbers atom.now) }
 {
     match atom {
         Atom::Holds(predicate, args) => {
@@ -75,7 +75,7 @@ fn count_atom(base: usize, atom: &Atom, counts: &mut [u32])
 #[tactic(auto, using(crate::proofs::Numbers::number_laws))]
 fn count_atoms(base: usize, atoms: &[Atom], counts: &mut [u32])
     requires { base + 8 ≤ length counts.old }
-    ensures { counts.new ≡ fold (counted base) counts.old (numbers_of atoms.now) }
+    ensures { counts.new ≡ fold (symbol_counted base) counts.old (numbers_of atoms.now) }
 {
     for atom in atoms {
         count_atom(base, atom, counts);

@@ -4,10 +4,10 @@ ghost use Rattle.spl_terms.specs.declared.clause.Clause.{Clause};
 ghost use Rattle.spl_truth.specs.Redundancy.{Subsumes};
 ghost use Rattle.subsume.specs.Features.{features};
 ghost use Rattle.subsume.specs.Tries.{AreAtMost};
-ghost use Rattle.subsume.specs.Held.{IsIn, AreFound, IsUnder, IsAlsoHeld, IsNoLongerHeld, IsStillNotHeld};
+ghost use Rattle.subsume.specs.Held.{IsInSlot, AreFound, IsUnder, IsAlsoHeld, IsNoLongerHeld, IsStillNotHeld};
 
 use crate::features::features;
-use crate::slots::{Held, add_keys, slot_of};
+use crate::slots::{HeldClause, add_keys, slot_of};
 use crate::trie::Trie;
 use spl_terms::Clause;
 use std::alloc::{AllocError, Global};
@@ -22,7 +22,7 @@ pub struct FeatureIndex {
     /// The features of each clause that is held, and behind them its slot.
     trie: Trie,
     /// The clauses with their keys; a slot from which one was removed stays empty.
-    slots: Vec<Option<Held>>,
+    slots: Vec<Option<HeldClause>>,
     alloc: Global,
 }
 
@@ -32,7 +32,7 @@ impl Model for FeatureIndex {
     ghost use Rattle.spl_terms.specs.contracts.term.Term as term;
     ghost use Rattle.spl_terms.specs.declared.clause.Clause.{Clause};
     ghost use Rattle.subsume.specs.Held.{held_pairs};
-    ghost use Rattle.subsume.specs.Filed.{IsFiled};
+    ghost use Rattle.subsume.specs.Filed.{IsFeatureIndex};
 
     ghost Value = { List (Clause × ℕ) };
 
@@ -40,18 +40,21 @@ impl Model for FeatureIndex {
 
     ghost view = { λ i. held_pairs i.slots.items };
 
-    ghost invariant = { IsFiled };
+    ghost invariant = { IsFeatureIndex };
 }
 
 /// The keys in the slots to which counts within these limits lead.
 fn keys_within(
     alloc: Global,
     trie: &Trie,
-    slots: &[Option<Held>],
+    slots: &[Option<HeldClause>],
     limits: &[u32],
 ) -> Result<Vec<u32>, AllocError>
-    ensures all { IfOk result (λ keys. (fs : List ℕ) (slot : ℕ) (c : Clause) (k : ℕ) → AreAtMost fs limits.now → IsUnder trie.now fs slot → IsIn slots.now slot c k → Contains keys.items k) }
-    ensures held { IfOk result (λ keys. (k : ℕ) → Contains keys.items k → (slot : ℕ) × (c : Clause) × IsIn slots.now slot c k) }
+    ensures all { IfOk result (λ keys. (fs : List ℕ) (slot : ℕ) (c : Clause) (k : ℕ)
+        → AreAtMost fs limits.now → IsUnder trie.now fs slot → IsInSlot slots.now slot c k
+        → Contains keys.items k) }
+    ensures held { IfOk result (λ keys. (k : ℕ) → Contains keys.items k
+        → (slot : ℕ) × (c : Clause) × IsInSlot slots.now slot c k) }
 {
     let mut leaves = Vec::new(alloc);
     trie.add_reached(0, limits, &mut leaves)?;
@@ -78,7 +81,8 @@ impl FeatureIndex {
     ///
     /// # Errors
     ///
-    /// Only where there is no memory, or more than 4,294,967,295 pairs were inserted. The same pairs are held then as before.
+    /// Only where there is no memory, or more than 4,294,967,295 pairs were inserted. Then the same pairs are held as
+    /// before.
     pub fn insert(&mut self, clause: &Clause, key: u32) -> Result<(), AllocError>
         ensures ok { OnOk result (IsAlsoHeld self.old self.new clause.now key) }
         ensures err { OnErr result (self.new ≡ self.old) }
@@ -92,7 +96,7 @@ impl FeatureIndex {
         if slot > 4_294_967_294 {
             return Err(AllocError);
         }
-        let held = Held {
+        let held = HeldClause {
             clause: clause.copy(self.alloc)?,
             key,
         };
@@ -130,8 +134,10 @@ impl FeatureIndex {
     ///
     /// Only where there is no memory.
     pub fn candidates(&self, clause: &Clause) -> Result<Vec<u32>, AllocError>
-        ensures subsuming { IfOk result (λ keys. (c : Clause) (k : ℕ) → Contains self.now (c, k) → Subsumes c clause.now → Contains keys.items k) }
-        ensures held { IfOk result (λ keys. (k : ℕ) → Contains keys.items k → (c : Clause) × Contains self.now (c, k)) }
+        ensures subsuming { IfOk result (λ keys. (c : Clause) (k : ℕ)
+            → Contains self.now (c, k) → Subsumes c clause.now → Contains keys.items k) }
+        ensures held { IfOk result (λ keys. (k : ℕ) → Contains keys.items k
+            → (c : Clause) × Contains self.now (c, k)) }
     {
         let limits = features(clause);
         let keys = keys_within(self.alloc, &self.trie, self.slots.as_slice(), &limits)?;

@@ -1,6 +1,7 @@
-//! Subsumption: a substitution that maps the atoms of one clause to different atoms of another.
+//! Subsumption: a substitution that maps the atoms of one clause to different atoms of another, and an index of clauses in
+//! which those that may subsume a given one are found.
 //!
-//! `specs/Subsuming.antt` says what is answered.
+//! `specs/Subsuming.antt` says what is answered, `specs/Held.antt` what the index holds.
 #![tactic(auto)]
 
 mod atoms;

@@ -2,8 +2,8 @@
 ghost use Rattle.std.specs.Prelude.{◌≡◌, ◌⊎◌, ℕ, ◌<◌, Some, IfOk, OnOk, MatchBool, MatchOption, Contains, slice_get};
 ghost use Rattle.spl_terms.specs.declared.clause.Clause.{Clause};
 ghost use Rattle.subsume.specs.Features.{features};
-ghost use Rattle.subsume.specs.Tries.{IsChild};
-ghost use Rattle.subsume.specs.Held.{IsIn, AreFound, held_pairs};
+ghost use Rattle.subsume.specs.Tries.{IsChildFor};
+ghost use Rattle.subsume.specs.Held.{IsInSlot, AreFound, held_pairs};
 
 use crate::trie::Trie;
 use spl_terms::{Clause, same_clause};
@@ -11,7 +11,7 @@ use std::alloc::AllocError;
 
 /// A clause that is held with its key.
 #[derive(Debug, Drop)]
-pub(crate) struct Held {
+pub(crate) struct HeldClause {
     /// The clause.
     pub(crate) clause: Clause,
     /// Its key.
@@ -19,9 +19,9 @@ pub(crate) struct Held {
 }
 
 /// What is held in the slot.
-fn held_at(slots: &[Option<Held>], slot: u32) -> Option<&Held>
+fn held_at(slots: &[Option<HeldClause>], slot: u32) -> Option<&HeldClause>
     ensures { MatchOption result
-        ((c : Clause) (key : ℕ) → IsIn slots.now slot c key → ⊥)
+        ((c : Clause) (key : ℕ) → IsInSlot slots.now slot c key → ⊥)
         (λ held. slice_get slots.now slot ≡ Some (Some held.now)) }
 {
     match slots.get(slot as usize) {
@@ -31,8 +31,10 @@ fn held_at(slots: &[Option<Held>], slot: u32) -> Option<&Held>
 }
 
 /// Whether the slot has this clause with this key.
-fn is_in(slots: &[Option<Held>], slot: u32, clause: &Clause, key: u32) -> bool
-    ensures { MatchBool result (IsIn slots.now slot clause.now key) (IsIn slots.now slot clause.now key → ⊥) }
+fn is_in(slots: &[Option<HeldClause>], slot: u32, clause: &Clause, key: u32) -> bool
+    ensures { MatchBool result
+        (IsInSlot slots.now slot clause.now key)
+        (IsInSlot slots.now slot clause.now key → ⊥) }
 {
     match held_at(slots, slot) {
         Some(held) => {
@@ -48,14 +50,14 @@ fn is_in(slots: &[Option<Held>], slot: u32, clause: &Clause, key: u32) -> bool
 /// The slot of this clause with this key, among those below the node; none where none of them has it.
 fn slot_below(
     trie: &Trie,
-    slots: &[Option<Held>],
+    slots: &[Option<HeldClause>],
     leaf: u32,
     clause: &Clause,
     key: u32,
 ) -> Option<u32>
     ensures { MatchOption result
-        ((slot m : ℕ) → IsChild trie.now leaf slot m → IsIn slots.now slot clause.now key → ⊥)
-        (λ slot. IsIn slots.now slot clause.now key) }
+        ((slot m : ℕ) → IsChildFor trie.now leaf slot m → IsInSlot slots.now slot clause.now key → ⊥)
+        (λ slot. IsInSlot slots.now slot clause.now key) }
 {
     let mut place = trie.first(leaf);
     while place != 0 {
@@ -75,7 +77,7 @@ fn slot_below(
 /// The slot of this clause with this key; none where no slot has it.
 pub(crate) fn slot_of(
     trie: &Trie,
-    slots: &[Option<Held>],
+    slots: &[Option<HeldClause>],
     counts: &[u32],
     clause: &Clause,
     key: u32,
@@ -83,8 +85,8 @@ pub(crate) fn slot_of(
     requires found { AreFound trie.now slots.now }
     requires counts { counts.now ≡ features clause.now }
     ensures { MatchOption result
-        ((slot : ℕ) → IsIn slots.now slot clause.now key → ⊥)
-        (λ slot. IsIn slots.now slot clause.now key) }
+        ((slot : ℕ) → IsInSlot slots.now slot clause.now key → ⊥)
+        (λ slot. IsInSlot slots.now slot clause.now key) }
 {
     match trie.leaf(counts) {
         None => None,
@@ -93,10 +95,11 @@ pub(crate) fn slot_of(
 }
 
 /// Adds the key in the slot, if there is one.
-fn add_key(slots: &[Option<Held>], slot: u32, keys: &mut Vec<u32>) -> Result<(), AllocError>
+fn add_key(slots: &[Option<HeldClause>], slot: u32, keys: &mut Vec<u32>) -> Result<(), AllocError>
     ensures kept { OnOk result ((k : ℕ) → Contains keys.old.items k → Contains keys.new.items k) }
-    ensures own { OnOk result ((c : Clause) (k : ℕ) → IsIn slots.now slot c k → Contains keys.new.items k) }
-    ensures held { OnOk result ((k : ℕ) → Contains keys.new.items k → Contains keys.old.items k ⊎ ((c : Clause) × IsIn slots.now slot c k)) }
+    ensures own { OnOk result ((c : Clause) (k : ℕ) → IsInSlot slots.now slot c k → Contains keys.new.items k) }
+    ensures held { OnOk result ((k : ℕ) → Contains keys.new.items k
+        → Contains keys.old.items k ⊎ ((c : Clause) × IsInSlot slots.now slot c k)) }
 {
     match held_at(slots, slot) {
         Some(held) => {
@@ -110,13 +113,15 @@ fn add_key(slots: &[Option<Held>], slot: u32, keys: &mut Vec<u32>) -> Result<(),
 /// Adds the keys in the slots below the node.
 pub(crate) fn add_keys(
     trie: &Trie,
-    slots: &[Option<Held>],
+    slots: &[Option<HeldClause>],
     leaf: u32,
     keys: &mut Vec<u32>,
 ) -> Result<(), AllocError>
     ensures kept { OnOk result ((k : ℕ) → Contains keys.old.items k → Contains keys.new.items k) }
-    ensures below { OnOk result ((slot m : ℕ) (c : Clause) (k : ℕ) → IsChild trie.now leaf slot m → IsIn slots.now slot c k → Contains keys.new.items k) }
-    ensures held { OnOk result ((k : ℕ) → Contains keys.new.items k → Contains keys.old.items k ⊎ ((slot : ℕ) × (c : Clause) × IsIn slots.now slot c k)) }
+    ensures below { OnOk result ((slot m : ℕ) (c : Clause) (k : ℕ)
+        → IsChildFor trie.now leaf slot m → IsInSlot slots.now slot c k → Contains keys.new.items k) }
+    ensures held { OnOk result ((k : ℕ) → Contains keys.new.items k
+        → Contains keys.old.items k ⊎ ((slot : ℕ) × (c : Clause) × IsInSlot slots.now slot c k)) }
 {
     let mut place = trie.first(leaf);
     while place != 0 {

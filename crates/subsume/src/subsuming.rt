@@ -55,7 +55,9 @@ fn listed_atoms<'a>(
     c: &'a Clause,
     d: &'a Clause,
 ) -> Result<Option<Vec<AtomToMap<'a>>>, AllocError>
-    ensures { IfOk result (λ found. MatchOption found (Subsumes c.now d.now → ⊥) (λ atoms. plain atoms.items ≡ all_to_map c.now d.now)) }
+    ensures { IfOk result (λ found. MatchOption found
+        (Subsumes c.now d.now → ⊥)
+        (λ atoms. plain atoms.items ≡ all_to_map c.now d.now)) }
 {
     let constraint = d.part(Part::Constraint);
     let antecedent = d.part(Part::Antecedent);
@@ -81,7 +83,9 @@ fn ordered_atoms<'a>(
     c: &'a Clause,
     d: &'a Clause,
 ) -> Result<Option<Vec<AtomToMap<'a>>>, AllocError>
-    ensures { IfOk result (λ found. MatchOption found (Subsumes c.now d.now → ⊥) (λ atoms. IsPermutation (all_to_map c.now d.now) (plain atoms.items))) }
+    ensures { IfOk result (λ found. MatchOption found
+        (Subsumes c.now d.now → ⊥)
+        (λ atoms. IsPermutation (all_to_map c.now d.now) (plain atoms.items))) }
 {
     match listed_atoms(alloc, c, d)? {
         None => Ok(None),
@@ -130,7 +134,9 @@ fn placed<'a>(
 /// Only where there is no memory.
 pub fn subsumes(alloc: Global, c: &Clause, d: &Clause) -> Result<Option<Subst>, AllocError>
     requires { IsInOrder c.now }
-    ensures { IfOk result (λ found. MatchOption found (Subsumes c.now d.now → ⊥) (λ s. SubsumesBy c.now d.now s.terms)) }
+    ensures { IfOk result (λ found. MatchOption found
+        (Subsumes c.now d.now → ⊥)
+        (λ s. SubsumesBy c.now d.now s.terms)) }
 {
     if !may_subsume(c, d) {
         return Ok(None);

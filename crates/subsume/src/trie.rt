@@ -1,6 +1,6 @@
 //! Lists of numbers, kept as paths in a tree, so that those within given limits are found without looking at the others.
 ghost use Rattle.std.specs.Prelude.{◌≡◌, ◌↔◌, ◌<◌, ◌≤◌, ℕ, Some, [], IsTrue, length, slice_get, IfOk, OnOk, MatchOption, Contains};
-ghost use Rattle.subsume.specs.Tries.{IsChild, Down, Grows, AreAtMost, sibling_in, ChildrenFollow, IsChildOrNone, HasReached};
+ghost use Rattle.subsume.specs.Tries.{IsChildFor, Down, Grows, AreAtMost, sibling_in, ChildrenAreInChain, IsChildOrNone, HasReached};
 
 use std::alloc::{AllocError, Global};
 use std::marker::Model;
@@ -29,13 +29,13 @@ pub(crate) struct Trie {
 impl Model for Trie {
     ghost use Rattle.std.specs.Prelude.{List};
     ghost use Rattle.subsume.specs.declared.trie.Node.{Node};
-    ghost use Rattle.subsume.specs.Links.{IsLinked};
+    ghost use Rattle.subsume.specs.Links.{IsTrie};
 
     ghost Value = { List Node };
 
     ghost view = { λ t. t.nodes.items };
 
-    ghost invariant = { IsLinked };
+    ghost invariant = { IsTrie };
 }
 
 /// Whether the node is below this one for this count.
@@ -58,10 +58,10 @@ impl Trie {
 
     /// The place of the node's first child, from which all its children follow; 0 where it has none.
     pub(crate) fn first(&self, n: u32) -> u32
-        ensures linked { ChildrenFollow self.now n result }
+        ensures linked { ChildrenAreInChain self.now n result }
         ensures ends { sibling_in self.now 0 ≡ 0 }
         ensures falls { (m : ℕ) → 0 < m → sibling_in self.now m < m }
-        ensures apart { (k count l m : ℕ) → IsChild self.now k count l → IsChild self.now k count m → l ≡ m }
+        ensures apart { (k count l m : ℕ) → IsChildFor self.now k count l → IsChildFor self.now k count m → l ≡ m }
     {
         self.firsts.get(n as usize).copied().unwrap_or(0)
     }
@@ -96,9 +96,9 @@ impl Trie {
     /// nothing changes.
     fn add(&mut self, n: u32, count: u32) -> Result<u32, AllocError>
         requires there { n < length self.old }
-        requires none { (m : ℕ) → IsChild self.old n count m → ⊥ }
+        requires none { (m : ℕ) → IsChildFor self.old n count m → ⊥ }
         ensures grown { Grows self.old self.new }
-        ensures child { IfOk result (λ m. IsChild self.new n count m × (m < length self.new)) }
+        ensures child { IfOk result (λ m. IsChildFor self.new n count m × (m < length self.new)) }
     {
         let place = self.nodes.len();
         if place > 4_294_967_294 {
@@ -121,7 +121,7 @@ impl Trie {
     pub(crate) fn child_made(&mut self, n: u32, count: u32) -> Result<u32, AllocError>
         requires { n < length self.old }
         ensures grown { Grows self.old self.new }
-        ensures child { IfOk result (λ m. IsChild self.new n count m × (m < length self.new)) }
+        ensures child { IfOk result (λ m. IsChildFor self.new n count m × (m < length self.new)) }
     {
         let place = self.child(n, count);
         if place != 0 {
@@ -194,7 +194,8 @@ impl Trie {
     ) -> Result<(), AllocError>
         requires { slice_get self.now place ≡ Some node }
         ensures kept { OnOk result ((v : ℕ) → Contains out.old.items v → Contains out.new.items v) }
-        ensures all { OnOk result ((f : ℕ) → f ≤ limit → IsChild self.now n f place → HasReached self.now place rest.now out.new.items) }
+        ensures all { OnOk result ((f : ℕ) → f ≤ limit → IsChildFor self.now n f place
+            → HasReached self.now place rest.now out.new.items) }
     {
         if node.parent != n {
             return Ok(());

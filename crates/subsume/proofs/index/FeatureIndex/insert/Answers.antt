@@ -1,5 +1,5 @@
 use Rattle.std.proofs.Common.{◌∙◌, ◌++◌, ◌∷◌, [], List, Option, Some, refl, ap, rules}
-use Rattle.subsume.specs.declared.slots.Held.{Held}
+use Rattle.subsume.specs.declared.slots.HeldClause.{HeldClause}
 use Rattle.subsume.proofs.Pairs.{answers_already, answers_inserted, still_found, found_after}
 use Rattle.subsume.proofs.index.FeatureIndex.insert.Goals as goal
 
@@ -17,7 +17,7 @@ pub invariant_of-self-2 : goal.invariant_of-self-2
 invariant_of-self-2 c =
     still_found c.self.inside.slots.items c.as_slice.result.now c.args.self.now c.args.clause.now c.args.key c.as_slice.ensures.value c.self.view_is
     c.push_reserved.new.self.items c.in_ok-copy.field-0 c.in_ok-copy.ensures
-    (c.push_reserved.ensures.items ∙ ap (λ (l : List (Option Held)). l ++ Some (record { clause = c.in_ok-copy.field-0; key = c.args.key }) ∷ []) c.in_ok-reserve.ensures.items)
+    (c.push_reserved.ensures.items ∙ ap (λ (l : List (Option HeldClause)). l ++ Some (record { clause = c.in_ok-copy.field-0; key = c.args.key }) ∷ []) c.in_ok-reserve.ensures.items)
     c.self.inside.trie c.made.new.self c.child_made.new.self c.features-counts.result c.in_ok-leaf.leaf c.len-slot.result c.in_ok-child_made.field-0
     c.self.invariant c.in_ok-leaf.ensures.grown c.in_ok-child_made.ensures.grown c.features-counts.ensures c.in_ok-leaf.ensures.down.0 c.in_ok-child_made.ensures.child.0 (search rules) c.in-None.ensures
 
@@ -25,4 +25,4 @@ pub returns-clause-ok : goal.returns-clause-ok
 returns-clause-ok c =
     answers_inserted c.self.inside.slots.items c.as_slice.result.now c.args.self.now c.args.clause.now c.args.key c.as_slice.ensures.value c.self.view_is
     c.push_reserved.new.self.items c.in_ok-copy.field-0 c.in_ok-copy.ensures
-    (c.push_reserved.ensures.items ∙ ap (λ (l : List (Option Held)). l ++ Some (record { clause = c.in_ok-copy.field-0; key = c.args.key }) ∷ []) c.in_ok-reserve.ensures.items)
+    (c.push_reserved.ensures.items ∙ ap (λ (l : List (Option HeldClause)). l ++ Some (record { clause = c.in_ok-copy.field-0; key = c.args.key }) ∷ []) c.in_ok-reserve.ensures.items)
