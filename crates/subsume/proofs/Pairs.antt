@@ -105,7 +105,13 @@ module _ (slots : List (Option HeldClause)) (s : ℕ) where
 pub not_held : (slots : List (Option HeldClause)) (c : Clause) (key : ℕ) → ((s : ℕ) → IsInSlot slots s c key → ⊥) → Contains (held_pairs slots) (c, key) → ⊥
 not_held slots c key never h = (let r = from_pairs slots (c, key) h in never r.0 r.1)
 
--- ---- one slot more
+-- ---- one slot more, or one that was empty
+
+-- the slot has the pair, and all others are as before
+pub record IsPutIn (slots now : List (Option HeldClause)) (s : ℕ) (held : HeldClause) : Type 0 where
+  pub before : (t : ℕ) (c : Clause) (key : ℕ) → IsInSlot slots t c key → IsInSlot now t c key
+  pub own : IsInSlot now s held.clause held.key
+  pub cases : (t : ℕ) (c : Clause) (key : ℕ) → IsInSlot now t c key → IsInSlot slots t c key ⊎ ((t ≡ s) × (held.clause ≡ c) × (held.key ≡ key))
 
 module _ (slots : List (Option HeldClause)) (held : HeldClause) where
   get_last : (t : ℕ) (h : HeldClause) → slice_get (slots ++ Some held ∷ []) t ≡ Some (Some h) → (slice_get slots t ≡ Some (Some h)) ⊎ ((t ≡ length slots) × (held ≡ h))
@@ -117,51 +123,79 @@ module _ (slots : List (Option HeldClause)) (held : HeldClause) where
       last (x ∷ xs) zero e = inl e
       last (x ∷ xs) (suc t) e = elim (last xs t e) [ inl before ↦ inl before | inr now ↦ inr (ap suc now.0, now.1) ]
 
-  in_before : (t : ℕ) (c : Clause) (key : ℕ) → IsInSlot slots t c key → IsInSlot (slots ++ Some held ∷ []) t c key
-  in_before t c key is = (is.0, get-left slots (Some held ∷ []) t (slice_get_within slots t (Some is.0) is.1) ∙ is.1, is.2, is.3)
+  at_end : (xs : List (Option HeldClause)) → slice_get (xs ++ Some held ∷ []) (length xs) ≡ Some (Some held)
+  at_end [] = refl
+  at_end (x ∷ xs) = at_end xs
 
-  in_last : IsInSlot (slots ++ Some held ∷ []) (length slots) held.clause held.key
-  in_last = (held, at_end slots, refl, refl)
+  pub put_last : IsPutIn slots (slots ++ Some held ∷ []) (length slots) held
+  put_last = record {
+    before = λ t c key is. (is.0, get-left slots (Some held ∷ []) t (slice_get_within slots t (Some is.0) is.1) ∙ is.1, is.2, is.3);
+    own = (held, at_end slots, refl, refl);
+    cases = λ t c key is. elim (get_last t is.0 is.1) [
+      | inl before ↦ inl (is.0, before, is.2, is.3)
+      | inr now ↦ inr (now.0, ap (λ (x : HeldClause). x.clause) now.1 ∙ is.2, ap (λ (x : HeldClause). x.key) now.1 ∙ is.3)
+    ];
+  }
+
+  get_put : (xs : List (Option HeldClause)) (s : ℕ) → slice_get xs s ≡ Some None → slice_get (set xs s (Some held)) s ≡ Some (Some held)
+  get_put [] s e = absurd (none-some None e)
+  get_put (x ∷ xs) zero e = refl
+  get_put (x ∷ xs) (suc s) e = get_put xs s e
+
+  get_beside : (xs : List (Option HeldClause)) (s t : ℕ) → (t ≡ s → ⊥) → slice_get (set xs s (Some held)) t ≡ slice_get xs t
+  get_beside [] s t h = refl
+  get_beside (x ∷ xs) zero zero h = absurd (h refl)
+  get_beside (x ∷ xs) zero (suc t) h = refl
+  get_beside (x ∷ xs) (suc s) zero h = refl
+  get_beside (x ∷ xs) (suc s) (suc t) h = get_beside xs s t (λ e. h (ap suc e))
+
+  pub put_back : (s : ℕ) → slice_get slots s ≡ Some None → IsPutIn slots (set slots s (Some held)) s held
+  put_back s empty = record {
+    before = λ t c key is. (is.0, get_beside slots s t (full t is.0 is.1) ∙ is.1, is.2, is.3);
+    own = (held, get_put slots s empty, refl, refl);
+    cases = λ t c key is. by_test t c key is (t == s) refl;
+  }
     where
-      at_end : (xs : List (Option HeldClause)) → slice_get (xs ++ Some held ∷ []) (length xs) ≡ Some (Some held)
-      at_end [] = refl
-      at_end (x ∷ xs) = at_end xs
+      full : (t : ℕ) (h : HeldClause) → slice_get slots t ≡ Some (Some h) → t ≡ s → ⊥
+      full t h is e = none-some h (same_Some None (Some h) (sym empty ∙ ap (slice_get slots) (sym e) ∙ is))
 
-  in_cases : (t : ℕ) (c : Clause) (key : ℕ) → IsInSlot (slots ++ Some held ∷ []) t c key → IsInSlot slots t c key ⊎ ((t ≡ length slots) × (held.clause ≡ c) × (held.key ≡ key))
-  in_cases t c key is = elim (get_last t is.0 is.1) [
-    | inl before ↦ inl (is.0, before, is.2, is.3)
-    | inr now ↦ inr (now.0, ap (λ (x : HeldClause). x.clause) now.1 ∙ is.2, ap (λ (x : HeldClause). x.key) now.1 ∙ is.3)
-  ]
+      by_test : (t : ℕ) (c : Clause) (key : ℕ) → IsInSlot (set slots s (Some held)) t c key → (b : Bool) → (t == s) ≡ b → IsInSlot slots t c key ⊎ ((t ≡ s) × (held.clause ≡ c) × (held.key ≡ key))
+      by_test t c key is true e =
+          let at : t ≡ s = eqb-true t s e in
+          let same : held ≡ is.0 = same_Some held is.0 (same_Some (Some held) (Some is.0) (sym (get_put slots s empty) ∙ ap (slice_get (set slots s (Some held))) (sym at) ∙ is.1)) in
+          inr (at, ap (λ (x : HeldClause). x.clause) same ∙ is.2, ap (λ (x : HeldClause). x.key) same ∙ is.3)
+      by_test t c key is false e = inl (is.0, sym (get_beside slots s t (λ q. false≢true (sym e ∙ eq-eqb t s q))) ∙ is.1, is.2, is.3)
 
-  pub also_held : IsAlsoHeld (held_pairs slots) (held_pairs (slots ++ Some held ∷ [])) held.clause held.key
+module _ (slots now : List (Option HeldClause)) (s : ℕ) (held : HeldClause) (put : IsPutIn slots now s held) where
+  pub also_held : IsAlsoHeld (held_pairs slots) (held_pairs now) held.clause held.key
   also_held p = (away, back)
     where
-      away : Contains (held_pairs (slots ++ Some held ∷ [])) p → Contains (held_pairs slots) p ⊎ (p ≡ (held.clause, held.key))
+      away : Contains (held_pairs now) p → Contains (held_pairs slots) p ⊎ (p ≡ (held.clause, held.key))
       away h =
-          let r = from_pairs (slots ++ Some held ∷ []) p h in
-          elim (in_cases r.0 p.0 p.1 r.1) [
+          let r = from_pairs now p h in
+          elim (put.cases r.0 p.0 p.1 r.1) [
             | inl before ↦ inl (in_pairs slots r.0 p.0 p.1 before)
-            | inr now ↦ inr (λ i. (sym now.1 i, sym now.2 i))
+            | inr new ↦ inr (λ i. (sym new.1 i, sym new.2 i))
           ]
 
-      back : Contains (held_pairs slots) p ⊎ (p ≡ (held.clause, held.key)) → Contains (held_pairs (slots ++ Some held ∷ [])) p
-      back (inl h) = (let r = from_pairs slots p h in in_pairs (slots ++ Some held ∷ []) r.0 p.0 p.1 (in_before r.0 p.0 p.1 r.1))
-      back (inr e) = subst (Contains (held_pairs (slots ++ Some held ∷ []))) (sym e) (in_pairs (slots ++ Some held ∷ []) (length slots) held.clause held.key in_last)
+      back : Contains (held_pairs slots) p ⊎ (p ≡ (held.clause, held.key)) → Contains (held_pairs now) p
+      back (inl h) = (let r = from_pairs slots p h in in_pairs now r.0 p.0 p.1 (put.before r.0 p.0 p.1 r.1))
+      back (inr e) = subst (Contains (held_pairs now)) (sym e) (in_pairs now s held.clause held.key put.own)
 
-  pub added_found : (nodes : List Node) → AreFound nodes slots → IsUnder nodes (features held.clause) (length slots) → ((s : ℕ) → IsInSlot slots s held.clause held.key → ⊥) → AreFound nodes (slots ++ Some held ∷ [])
+  pub added_found : (nodes : List Node) → AreFound nodes slots → IsUnder nodes (features held.clause) s → ((t : ℕ) → IsInSlot slots t held.clause held.key → ⊥) → AreFound nodes now
   added_found nodes found under never = record {
-    under = λ t c key is. elim (in_cases t c key is) [
+    under = λ t c key is. elim (put.cases t c key is) [
       | inl before ↦ found.under t c key before
-      | inr now ↦ subst (λ d. IsUnder nodes (features d) t) now.1 (subst (IsUnder nodes (features held.clause)) (sym now.0) under)
+      | inr new ↦ subst (λ d. IsUnder nodes (features d) t) new.1 (subst (IsUnder nodes (features held.clause)) (sym new.0) under)
     ];
-    apart = λ t u c key is is'. elim (in_cases t c key is) [
-      | inl before ↦ elim (in_cases u c key is') [
+    apart = λ t u c key is is'. elim (put.cases t c key is) [
+      | inl before ↦ elim (put.cases u c key is') [
         | inl before' ↦ found.apart t u c key before before'
-        | inr now ↦ absurd (never t (subst (λ d. IsInSlot slots t d held.key) (sym now.1) (subst (IsInSlot slots t c) (sym now.2) before)))
+        | inr new ↦ absurd (never t (subst (λ d. IsInSlot slots t d held.key) (sym new.1) (subst (IsInSlot slots t c) (sym new.2) before)))
       ]
-      | inr now ↦ elim (in_cases u c key is') [
-        | inl before' ↦ absurd (never u (subst (λ d. IsInSlot slots u d held.key) (sym now.1) (subst (IsInSlot slots u c) (sym now.2) before')))
-        | inr now' ↦ now.0 ∙ sym now'.0
+      | inr new ↦ elim (put.cases u c key is') [
+        | inl before' ↦ absurd (never u (subst (λ d. IsInSlot slots u d held.key) (sym new.1) (subst (IsInSlot slots u c) (sym new.2) before')))
+        | inr new' ↦ new.0 ∙ sym new'.0
       ]
     ];
   }
@@ -232,15 +266,32 @@ module _ (slots slots' : List (Option HeldClause)) (pairs : List Pair) (c : Clau
         subst (λ l. IsAlsoHeld pairs (held_pairs l) c key) (sym push)
         (subst (λ l. IsAlsoHeld l (held_pairs (slots ++ Some (record { clause = clause; key = key }) ∷ [])) c key) view
         (subst (λ d. IsAlsoHeld (held_pairs slots) (held_pairs (slots ++ Some (record { clause = clause; key = key }) ∷ [])) d key) copied
-        (also_held slots (record { clause = clause; key = key }))))
+        (also_held slots (slots ++ Some (record { clause = clause; key = key }) ∷ []) (length slots) (record { clause = clause; key = key }) (put_last slots (record { clause = clause; key = key })))))
 
     pub still_found : (nodes made later : List Node) (counts : List ℕ) (leaf place m : ℕ) → AreFound nodes slots → Grows nodes made → Grows made later → counts ≡ features c → Down made counts 0 leaf → IsChildFor later leaf place m → place ≡ length slots → ((s : ℕ) → IsInSlot slots' s c key → ⊥) → AreFound later pushed
     still_found nodes made later counts leaf place m found one other e down child at never =
         subst (AreFound later) (sym push)
-        (added_found slots (record { clause = clause; key = key }) later
+        (added_found slots (slots ++ Some (record { clause = clause; key = key }) ∷ []) (length slots) (record { clause = clause; key = key }) (put_last slots (record { clause = clause; key = key })) later
         (grown_found made later slots other (grown_found nodes made slots one found))
         (leaf, m, subst (λ fs. Down later fs 0 leaf) (e ∙ ap features (sym copied)) (grown_down made later counts 0 leaf other down), subst (λ p. IsChildFor later leaf p m) at child)
         (λ s is. never s (subst (λ l. IsInSlot l s c key) (sym same) (subst (λ d. IsInSlot slots s d key) copied is))))
+
+-- the same for a slot that was empty
+module _ (slots slots' : List (Option HeldClause)) (pairs : List Pair) (c : Clause) (key : ℕ) (same : slots' ≡ slots) (view : held_pairs slots ≡ pairs) (clause : Clause) (copied : clause ≡ c) (s : ℕ) (empty : slice_get slots s ≡ Some None) where
+  abbrev put : HeldClause
+  put = record { clause = clause; key = key }
+
+  pub answers_put : IsAlsoHeld pairs (held_pairs (set slots s (Some put))) c key
+  answers_put =
+      subst (λ l. IsAlsoHeld l (held_pairs (set slots s (Some put))) c key) view
+      (subst (λ d. IsAlsoHeld (held_pairs slots) (held_pairs (set slots s (Some put))) d key) copied
+      (also_held slots (set slots s (Some put)) s put (put_back slots put s empty)))
+
+  pub put_found : (nodes : List Node) (counts : List ℕ) → AreFound nodes slots → counts ≡ features c → IsUnder nodes counts s → ((t : ℕ) → IsInSlot slots' t c key → ⊥) → AreFound nodes (set slots s (Some put))
+  put_found nodes counts found e under never =
+      added_found slots (set slots s (Some put)) s put (put_back slots put s empty) nodes found
+      (subst (λ fs. IsUnder nodes fs s) (e ∙ ap features (sym copied)) under)
+      (λ t is. never t (subst (λ l. IsInSlot l t c key) (sym same) (subst (λ d. IsInSlot slots t d key) copied is)))
 
 pub found_after : (nodes later : List Node) (slots slots' : List (Option HeldClause)) → slots' ≡ slots → Grows nodes later → AreFound nodes slots → AreFound later slots'
 found_after nodes later slots slots' same g found = subst (AreFound later) (sym same) (grown_found nodes later slots g found)

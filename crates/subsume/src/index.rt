@@ -7,7 +7,7 @@ ghost use Rattle.subsume.specs.Tries.{AreAtMost};
 ghost use Rattle.subsume.specs.Held.{IsInSlot, AreFound, IsUnder, IsAlsoHeld, IsNoLongerHeld, IsStillNotHeld};
 
 use crate::features::features;
-use crate::slots::{HeldClause, add_keys, slot_of};
+use crate::slots::{HeldClause, add_keys, empty_slot, slot_of};
 use crate::trie::Trie;
 use spl_terms::Clause;
 use std::alloc::{AllocError, Global};
@@ -21,7 +21,7 @@ use std::marker::Model;
 pub struct FeatureIndex {
     /// The features of each clause that is held, and behind them its slot.
     trie: Trie,
-    /// The clauses with their keys; a slot from which one was removed stays empty.
+    /// The clauses with their keys; a slot from which one was removed is used for the next one with the same features.
     slots: Vec<Option<HeldClause>>,
     alloc: Global,
 }
@@ -92,14 +92,21 @@ impl FeatureIndex {
             None => {}
             Some(_) => return Ok(()),
         }
-        let slot = self.slots.len();
-        if slot > 4_294_967_294 {
-            return Err(AllocError);
-        }
         let held = HeldClause {
             clause: clause.copy(self.alloc)?,
             key,
         };
+        match empty_slot(&self.trie, self.slots.as_slice(), &counts) {
+            None => {}
+            Some(slot) => {
+                self.slots[slot as usize] = Some(held);
+                return Ok(());
+            }
+        }
+        let slot = self.slots.len();
+        if slot > 4_294_967_294 {
+            return Err(AllocError);
+        }
         self.slots.reserve(1)?;
         let leaf = self.trie.made(&counts)?;
         self.trie.child_made(leaf, slot as u32)?;

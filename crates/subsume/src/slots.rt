@@ -1,9 +1,9 @@
 //! Clauses with their keys, each in a slot, and the look-up of slots by features.
-ghost use Rattle.std.specs.Prelude.{◌≡◌, ◌⊎◌, ℕ, ◌<◌, Some, IfOk, OnOk, MatchBool, MatchOption, Contains, slice_get};
+ghost use Rattle.std.specs.Prelude.{◌≡◌, ◌⊎◌, ⊤, ℕ, ◌<◌, Some, None, true, IfOk, OnOk, MatchBool, MatchOption, Contains, slice_get};
 ghost use Rattle.spl_terms.specs.declared.clause.Clause.{Clause};
 ghost use Rattle.subsume.specs.Features.{features};
 ghost use Rattle.subsume.specs.Tries.{IsChildFor};
-ghost use Rattle.subsume.specs.Held.{IsInSlot, AreFound, held_pairs};
+ghost use Rattle.subsume.specs.Held.{IsInSlot, IsUnder, AreFound, held_pairs};
 
 use crate::trie::Trie;
 use spl_terms::{Clause, same_clause};
@@ -92,6 +92,48 @@ pub(crate) fn slot_of(
         None => None,
         Some(leaf) => slot_below(trie, slots, leaf, clause, key),
     }
+}
+
+/// Whether the slot is one from which a pair was removed.
+fn is_empty(slots: &[Option<HeldClause>], slot: u32) -> bool
+    ensures { result ≡ true → slice_get slots.now slot ≡ Some None }
+{
+    match slots.get(slot as usize) {
+        Some(None) => true,
+        _ => false,
+    }
+}
+
+/// An empty slot below the node.
+fn empty_slot_below(trie: &Trie, slots: &[Option<HeldClause>], leaf: u32) -> Option<u32>
+    ensures { MatchOption result ⊤ (λ slot.
+        (slice_get slots.now slot ≡ Some None) × ((m : ℕ) × IsChildFor trie.now leaf slot m)) }
+{
+    let mut place = trie.first(leaf);
+    while place != 0 {
+        match trie.node(place) {
+            None => return None,
+            Some(node) => {
+                if node.parent == leaf {
+                    if is_empty(slots, node.count) {
+                        return Some(node.count);
+                    }
+                }
+                place = node.sibling;
+            }
+        }
+    }
+    None
+}
+
+/// An empty slot to which the counts lead.
+pub(crate) fn empty_slot(trie: &Trie, slots: &[Option<HeldClause>], counts: &[u32]) -> Option<u32>
+    ensures { MatchOption result ⊤ (λ slot.
+        (slice_get slots.now slot ≡ Some None) × IsUnder trie.now counts.now slot) }
+{
+    let leaf = trie.leaf(counts)?;
+    let slot = empty_slot_below(trie, slots, leaf)?;
+    Some(slot)
 }
 
 /// Adds the key in the slot, if there is one.
