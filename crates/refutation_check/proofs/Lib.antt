@@ -1,0 +1,3 @@
+mod ParentLemmas
+mod SetLemmas
+mod Verdicts
