@@ -1,0 +1,14 @@
+mod Paths
+mod Sizes
+mod Images
+mod EditSteps
+mod Options
+mod Forced
+mod Replaced
+mod Mapped
+mod Edits
+mod Sound
+mod Cut
+mod Composed
+mod Composing
+mod Noted

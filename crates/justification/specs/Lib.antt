@@ -1,0 +1,4 @@
+pub mod Instances
+pub mod Tests
+pub mod Hiding
+pub mod Composing
