@@ -23,6 +23,7 @@ fn show_text(rt: &HostRuntime, what: &str, text: &str) -> io::Result<()> {
         "problem" => problems::show_problem(rt, alloc, bytes),
         "clauses" => problems::show_clauses(rt, alloc, bytes),
         "prefixes" => problems::show_prefixes(rt, alloc, bytes),
+        "made" => problems::show_made(rt, alloc, text),
         "tokens" => words::show_tokens(rt, alloc, bytes),
         "name" => words::show_name(rt, bytes),
         "spelling" => words::show_spelling(rt),

@@ -1,5 +1,6 @@
 //! Problems with their faults, and their clauses.
 use dfg_reader::{InputError, Problem, clauses_of, read_problem};
+use problem_make::make;
 use spl_terms::{Clause, Items};
 use std::alloc::Global;
 use std::io;
@@ -65,4 +66,20 @@ pub fn show_prefixes<R: Runtime>(rt: &R, alloc: Global, bytes: &[u8]) -> io::Res
         show_problem(rt, alloc, &bytes[..length])?;
     }
     show_problem(rt, alloc, bytes)
+}
+
+/// Prints how many bytes the generated problem has and how many clauses are read in it; the text is its number and its size,
+/// with a space between them.
+pub fn show_made<R: Runtime>(rt: &R, alloc: Global, text: &str) -> io::Result<()> {
+    let (number, size) = text.split_once(" ").unwrap_or(("0", "1"));
+    let number: u32 = number.parse().unwrap_or(0);
+    let size: u32 = size.parse().unwrap_or(1);
+    if number > 999_999 || size < 1 || size > 1500 {
+        return println!(rt; "out of range");
+    }
+    let made = make(alloc, number, size)?;
+    match read_clauses(alloc, made.as_slice()) {
+        Ok(found) => println!(rt; "bytes {}, clauses {}", made.len(), found.len()),
+        Err(error) => show_error(rt, error),
+    }
 }

@@ -1,10 +1,13 @@
-//! Worked examples of symbols, terms, clauses, instances, the order, unifiers, parts, steps and inferences. A row of standard
-//! input is one example with the answer that it must have; rows that have another one are printed, and how many rows there were.
+//! Worked examples of symbols, terms, clauses, instances, the order, unifiers, parts, steps, proofs, inferences and notes. A row
+//! of standard input is one example with the answer that it must have; rows that have another one are printed, and how many
+//! rows there were.
 #![tactic(auto)]
 
+mod checks;
 mod clauses;
 mod inferences;
 mod instances;
+mod notes;
 mod order;
 mod parts;
 mod sets;
@@ -67,6 +70,8 @@ fn is_right(alloc: Global, row: &Row) -> Result<bool, AllocError> {
         "subsumes" => subsumption::subsumed(alloc, row),
         "candidates" => subsumption::candidates(alloc, row),
         "proof" => steps::proof(alloc, row),
+        "check" => checks::checked(alloc, row),
+        "hidden" => notes::hidden(alloc, row),
         _ => is_right_beside(alloc, row),
     }
 }

@@ -20,7 +20,7 @@ fn assumptions(alloc: Global, text: &str) -> Result<Deps, AllocError> {
 }
 
 /// The statement of a clause and its assumptions.
-fn statement(alloc: Global, written: &str, deps: &str) -> Result<Statement, AllocError> {
+pub(crate) fn statement(alloc: Global, written: &str, deps: &str) -> Result<Statement, AllocError> {
     Ok(Statement {
         clause: clause(alloc, written)?,
         deps: assumptions(alloc, deps)?,
@@ -42,7 +42,7 @@ const EARLIER: [(&str, &str); 10] = [
     ("||=g0a", ""),
 ];
 
-fn substitution(alloc: Global, text: &str) -> Result<Subst, AllocError> {
+pub(crate) fn substitution(alloc: Global, text: &str) -> Result<Subst, AllocError> {
     Ok(Subst {
         terms: terms(alloc, text)?,
     })
@@ -121,7 +121,7 @@ fn rule(alloc: Global, fields: &Row) -> Result<Rule, AllocError> {
 }
 
 /// The step of a text: its rule, a `@`, and its parents with commas between them.
-fn step(alloc: Global, text: &str) -> Result<Step, AllocError> {
+pub(crate) fn step(alloc: Global, text: &str) -> Result<Step, AllocError> {
     let halves = Row::split(alloc, text, '@')?;
     let rule = rule(alloc, &Row::split(alloc, halves.text(0), ':')?)?;
     let mut parents = Items::new(alloc);
@@ -151,27 +151,42 @@ pub fn concluded(alloc: Global, row: &Row) -> Result<bool, AllocError> {
     )
 }
 
-/// The lines of these steps over the input, each with what it concludes; one that concludes nothing states the empty clause.
+/// What a step over these lines concludes; the empty clause where it concludes nothing.
+pub(crate) fn conclusion(
+    alloc: Global,
+    input: &[Clause],
+    before: &[Line],
+    step: &Step,
+) -> Result<Statement, AllocError> {
+    match conclude_from_lines(alloc, step, input, before)? {
+        Some(stated) => Ok(stated),
+        None => statement(alloc, "||", ""),
+    }
+}
+
+/// The lines of these steps over the input, each with what it concludes.
 fn lines(alloc: Global, input: &[Clause], steps: &Row) -> Result<Vec<Line>, AllocError> {
     let mut lines = Vec::new(alloc);
     for text in steps.words() {
         let step = step(alloc, text.as_str())?;
-        let made = conclude_from_lines(alloc, &step, input, lines.as_slice())?;
-        let stated = match made {
-            Some(stated) => stated,
-            None => statement(alloc, "||", "")?,
-        };
+        let stated = conclusion(alloc, input, lines.as_slice(), &step)?;
         lines.push(Line { step, stated })?;
     }
     Ok(lines)
 }
 
-/// `proof CLAUSES STEPS yes|no`, with `;` between clauses and between steps: whether the steps are a proof from the clauses.
-pub fn proof(alloc: Global, row: &Row) -> Result<bool, AllocError> {
+/// The clauses of a text, with `;` between them.
+pub(crate) fn input_clauses(alloc: Global, text: &str) -> Result<Vec<Clause>, AllocError> {
     let mut input = Vec::new(alloc);
-    for written in Row::split(alloc, row.text(1), ';')?.words() {
+    for written in Row::split(alloc, text, ';')?.words() {
         input.push(clause(alloc, written.as_str())?)?;
     }
+    Ok(input)
+}
+
+/// `proof CLAUSES STEPS yes|no`, with `;` between clauses and between steps: whether the steps are a proof from the clauses.
+pub fn proof(alloc: Global, row: &Row) -> Result<bool, AllocError> {
+    let input = input_clauses(alloc, row.text(1))?;
     let lines = lines(
         alloc,
         input.as_slice(),
