@@ -127,7 +127,7 @@ module _ (P : FormulaPhrase) (read : FormulaReader) (law : Stands P read) where
   inside_stands bytes symbols connectives.Forall = quantified_stands bytes symbols true
   inside_stands bytes symbols connectives.Exists = quantified_stands bytes symbols false
 
-  connected_stands : (bytes : List ℕ) (symbols : List Declared) (c : Connective) (scope : List Binding) (next : ℕ) (ts : List Token) (y : Read) → connected_at bytes symbols c read scope next ts ≡ Ok y
+  pub connected_stands : (bytes : List ℕ) (symbols : List Declared) (c : Connective) (scope : List Binding) (next : ℕ) (ts : List Token) (y : Read) → connected_at bytes symbols c read scope next ts ≡ Ok y
       → (y.0.1 ≡ next + binding_count y.0.0) × enclosed (inside bytes symbols c P scope next y.0.0) ts y.1
   unfolding connected_at
   connected_stands bytes symbols c scope next ts y e =
@@ -139,7 +139,7 @@ module _ (P : FormulaPhrase) (read : FormulaReader) (law : Stands P read) where
       (here.0, (a.0, mark_stands OpenParenthesis ts a.0 a.1, (b.0.1, here.1, mark_stands CloseParenthesis b.0.1 d.0 d.1)))
 
 module _ (bytes : List ℕ) (symbols : List Declared) where
-  atom_is : (depth : ℕ) → Stands (atomic bytes symbols depth) (atom_at bytes symbols depth)
+  pub atom_is : (depth : ℕ) → Stands (atomic bytes symbols depth) (atom_at bytes symbols depth)
   unfolding atom_at
   atom_is depth scope next ts y e =
       let terms = term_at bytes symbols (named_leaf bytes scope) depth in

@@ -54,7 +54,7 @@ module _ (P : FormulaPhrase) (takes : AllTake P) where
       let second = P scope (first + binding_count p.0) p.1 in
       then_keeps (P scope first p.0) (mark Comma ⨾ second) (weaken (P scope first p.0) (takes scope first p.0)) (then_keeps (mark Comma) second (weaken (mark Comma) (mark_takes _)) (weaken second (takes scope (first + binding_count p.0) p.1))) ts rest p.3
 
-  quantification_keeps : (bytes : List ℕ) (symbols : List Declared) (all : Bool) (scope : List Binding) (first : ℕ) (f : Tree) → Keeps (quantification bytes symbols all P scope first f)
+  pub quantification_keeps : (bytes : List ℕ) (symbols : List Declared) (all : Bool) (scope : List Binding) (first : ℕ) (f : Tree) → Keeps (quantification bytes symbols all P scope first f)
   quantification_keeps bytes symbols all scope first f ts rest p =
       let items = comma_separated (item bytes symbols) p.0 in
       let inner = P (scope ++ bindings_from first p.0) (first + length p.0) p.1 in
@@ -187,7 +187,7 @@ module _ (bytes : List ℕ) (symbols : List Declared) (own : HasOwnNames symbols
     inside_read connectives.Forall = quantified_read true
     inside_read connectives.Exists = quantified_read false
 
-    connected_read : (c : Connective) (scope : List Binding) (first : ℕ) (f : Tree) (ts rest : List Token) → length ts ≤ length bytes → enclosed (inside bytes symbols c P scope first f) ts rest → connected_at bytes symbols c read scope first ts ≡ Ok ((f, first + binding_count f), rest)
+    pub connected_read : (c : Connective) (scope : List Binding) (first : ℕ) (f : Tree) (ts rest : List Token) → length ts ≤ length bytes → enclosed (inside bytes symbols c P scope first f) ts rest → connected_at bytes symbols c read scope first ts ≡ Ok ((f, first + binding_count f), rest)
     unfolding connected_at
     connected_read c scope first f ts rest near p =
         let inner = p.2 in
@@ -202,7 +202,7 @@ module _ (bytes : List ℕ) (symbols : List Declared) (own : HasOwnNames symbols
       let is = s.1.2 in
       head_is is.0 ts p.3.0 (s.0, is.1, s.2) ∙ free_head is.0 is.2
 
-  atom_is_read : (depth : ℕ) → ReadsEach bytes (atomic bytes symbols depth) (atom_at bytes symbols depth)
+  pub atom_is_read : (depth : ℕ) → ReadsEach bytes (atomic bytes symbols depth) (atom_at bytes symbols depth)
   unfolding atom_at
   atom_is_read depth scope first f ts rest near p apart =
       let agree = names_agree bytes scope in

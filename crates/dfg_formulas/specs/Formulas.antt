@@ -1,5 +1,5 @@
 -- Formulas and clauses, or the first fault: what is read, the number of the next binding, and the tokens that are left.
-use Rattle.std.specs.Prelude.{◌≡◌, ℕ, zero, suc, ◌+◌, Bool, true, false, ◌&&◌, ◌==◌, if◌then◌else◌, List, [], ◌∷◌, ◌++◌, length, Option, Some, None, Result, Ok}
+use Rattle.std.specs.Prelude.{◌≡◌, ℕ, zero, suc, ◌+◌, ◌-◌, Bool, true, false, ◌&&◌, ◌==◌, if◌then◌else◌, List, [], ◌∷◌, ◌++◌, length, Option, Some, None, Result, Ok}
 use Rattle.spl_terms.specs.declared.term.Kind.{Kind}
 use Rattle.spl_terms.specs.declared.term.Kind.TheVariants as term_kinds
 use Rattle.spl_terms.specs.declared.term.Symbol.{Symbol}
@@ -7,6 +7,7 @@ use Rattle.spl_symbols.specs.Symbols.{Declared}
 use Rattle.formulas.specs.declared.tree.Tree as tree
 use Rattle.formulas.specs.declared.tree.Tree.{Tree}
 use Rattle.dfg_tokens.specs.declared.token.Token.{Token}
+use Rattle.dfg_tokens.specs.declared.word.Word.TheVariants as words
 use Rattle.dfg_tokens.specs.declared.piece.Mark.TheVariants.{OpenParenthesis, CloseParenthesis, OpenBracket, CloseBracket, Comma}
 use Rattle.dfg_tokens.specs.Cursors.{tail}
 use Rattle.dfg_terms.specs.declared.fault.ReadFault.{ReadFault}
@@ -14,7 +15,7 @@ use Rattle.dfg_terms.specs.declared.fault.FaultKind.TheVariants.{Unexpected, Und
 use Rattle.dfg_terms.specs.declared.fault.Limit.TheVariants as limits
 use Rattle.dfg_terms.specs.declared.symbols.Found.{Found}
 use Rattle.dfg_terms.specs.declared.symbols.Place.TheVariants as places
-use Rattle.dfg_terms.specs.Reading.{◌>>=◌, Reader, refuse, fault, next_mark, mark_at, name_at, bytes_of, spelled_at, commas}
+use Rattle.dfg_terms.specs.Reading.{◌>>=◌, Reader, refuse, fault, next_mark, next_word, mark_at, name_at, bytes_of, spelled_at, commas}
 use Rattle.dfg_terms.specs.Scopes.{Binding}
 use Rattle.dfg_terms.specs.Symbols.{lookup}
 use Rattle.dfg_terms.specs.Terms.{named_leaf, term_at, atom_with}
@@ -162,3 +163,18 @@ too_deep shape ts = if may_begin shape (next_head ts) then refuse (LimitReached 
 unfoldable pub formula_at : List ℕ → List Declared → ℕ → Shape → FormulaReader
 formula_at bytes symbols zero shape scope next ts = too_deep shape ts
 formula_at bytes symbols (suc depth) shape scope next ts = formula_by bytes symbols shape depth (formula_at bytes symbols depth) (next_head ts) scope next ts
+
+-- ---- declarations of terms
+
+-- `T(t)`, whose term may nest so deep; its name is looked up before its arguments are read
+unfoldable pub sorted_term_at : List ℕ → List Declared → ℕ → FormulaReader
+sorted_term_at bytes symbols depth scope next ts = do
+  name ← name_at ts
+  sort ← sort_named bytes symbols name.0
+  atom_at bytes symbols depth scope next ts
+
+-- `T(t)`, or `forall([..],T(t))`; all nests at most so deep
+unfoldable pub term_declaration_at : List ℕ → List Declared → ℕ → FormulaReader
+term_declaration_at bytes symbols depth scope next ts =
+    if next_word words.Forall ts then connected_at bytes symbols connectives.Forall (sorted_term_at bytes symbols (depth - 2)) scope next (tail ts)
+    else sorted_term_at bytes symbols (depth - 1) scope next ts

@@ -1,7 +1,9 @@
 -- The grammar of formulas and clauses (SPASS Input Syntax 1.5, in the profile of docs/grammar.md): which tokens spell what.
-use Rattle.std.specs.Prelude.{◌≡◌, ℕ, zero, suc, ◌+◌, ◌≤◌, Bool, true, false, ◌⊎◌, List, [], ◌∷◌, ◌++◌, length, slice_get, Option, Some, None, Result, Ok}
+use Rattle.std.specs.Prelude.{◌≡◌, ℕ, zero, suc, ◌+◌, ◌-◌, ◌≤◌, Bool, true, false, ◌⊎◌, List, [], ◌∷◌, ◌++◌, length, slice_get, Option, Some, None, Result, Ok, ⊤}
 use Rattle.spl_terms.specs.declared.term.Symbol.{Symbol}
+use Rattle.spl_terms.specs.declared.term.Term.{Term}
 use Rattle.spl_terms.specs.declared.atom.Atom.{Atom}
+use Rattle.spl_terms.specs.declared.atom.Atom.TheVariants.{Holds}
 use Rattle.spl_symbols.specs.Symbols.{Declared}
 use Rattle.formulas.specs.declared.tree.Tree as tree
 use Rattle.formulas.specs.declared.tree.Tree.{Tree, Tree-F, fold-Tree}
@@ -15,7 +17,7 @@ use Rattle.dfg_terms.specs.declared.symbols.Place.TheVariants as places
 use Rattle.dfg_terms.specs.Reading.{Gives, next_mark}
 use Rattle.dfg_terms.specs.Scopes.{Binding}
 use Rattle.dfg_terms.specs.Phrases.{Phrase, ◌⨾◌, nothing, token, mark, word, IsNameOf, enclosed, comma_separated}
-use Rattle.dfg_terms.specs.Grammar.{names, term, atom}
+use Rattle.dfg_terms.specs.Grammar.{names, term, application, atom}
 use Rattle.dfg_formulas.specs.declared.shape.Shape.{Shape}
 use Rattle.dfg_formulas.specs.declared.shape.Connective.{Connective}
 use Rattle.dfg_formulas.specs.declared.shape.Connective.TheVariants as connectives
@@ -140,10 +142,31 @@ unfoldable pub formula : List ℕ → List Declared → ℕ → Shape → Formul
 formula bytes symbols zero shape scope first f ts rest = ⊥
 formula bytes symbols (suc depth) shape scope first f ts rest = constant f ts rest ⊎ (atomic bytes symbols depth scope first f ts rest ⊎ connection bytes symbols shape (formula bytes symbols depth) scope first f ts rest)
 
+-- ---- declarations of terms
+
+-- `T(t)`: a sort, or a predicate of one argument, of a term that nests at most so deep
+abbrev pub sorted_term : List ℕ → List Declared → ℕ → FormulaPhrase
+sorted_term bytes symbols depth scope first f ts rest =
+    (s : Symbol) × (t : Term) × (f ≡ tree.Atom (Holds s (t ∷ [])))
+    × application bytes symbols places.Atom (λ free. ⊤) (term bytes symbols (names bytes scope) depth) s (t ∷ []) ts rest
+
+-- it alone, or for all values of variables; all nests at most so deep
+abbrev pub term_declaration : List ℕ → List Declared → ℕ → FormulaPhrase
+term_declaration bytes symbols depth scope first f ts rest =
+    sorted_term bytes symbols (depth - 1) scope first f ts rest
+    ⊎ (word words.Forall ⨾ enclosed (quantification bytes symbols true (sorted_term bytes symbols (depth - 2)) scope first f)) ts rest
+
 -- ---- in a text
 
 abbrev pub IsFormulaIn : Text → Level → FormulaPhrase
 IsFormulaIn text level = formula text.bytes.now text.symbols.now level.depth level.shape
+
+abbrev pub IsTermDeclarationIn : Text → ℕ → FormulaPhrase
+IsTermDeclarationIn text depth = term_declaration text.bytes.now text.symbols.now depth
+
+-- the same as for formulas below
+abbrev pub EachDeclarationIsRead : Text → ℕ → List Binding → ℕ → Result (Tree × ℕ) InputError → List Token → List Token → Type 0
+EachDeclarationIsRead text depth scope next result old new = length old ≤ length text.bytes.now → (f : Tree) (rest : List Token) → IsTermDeclarationIn text depth scope next f old rest → next_mark OpenParenthesis rest ≡ false → Gives {Y = (Tree × ℕ) × List Token} (λ x. (x, new)) result (Ok ((f, next + binding_count f), rest))
 
 -- Each formula that the tokens write is read, where no parenthesis follows; the tokens are no more than the bytes of the text.
 abbrev pub EachFormulaIsRead : Text → Level → List Binding → ℕ → Result (Tree × ℕ) InputError → List Token → List Token → Type 0

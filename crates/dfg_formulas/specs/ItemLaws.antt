@@ -29,7 +29,7 @@ item_step first s i = ((s.0.0 ++ record { name = i.name; number = first + s.0.1 
 -- ---- what is read is written so
 
 module _ (bytes : List ℕ) (symbols : List Declared) where
-  sort_stands : (t : Token) (s : Symbol) → sort_named bytes symbols t ≡ Ok s → IsSort symbols s (token_bytes bytes t)
+  pub sort_stands : (t : Token) (s : Symbol) → sort_named bytes symbols t ≡ Ok s → IsSort symbols s (token_bytes bytes t)
   unfolding sort_named
   sort_stands t s e =
       let a = bind_ok (spelled_at bytes t) (λ name. sort_if t.at (lookup name symbols)) s e in
@@ -80,7 +80,7 @@ module _ (bytes : List ℕ) (symbols : List Declared) where
 -- ---- what is written is read
 
 module _ (bytes : List ℕ) (symbols : List Declared) (own : HasOwnNames symbols) (named : AreNamed symbols) where
-  sort_read : (t : Token) (s : Symbol) (name : List ℕ) → IsSort symbols s name → token_bytes bytes t ≡ name → sort_named bytes symbols t ≡ Ok s
+  pub sort_read : (t : Token) (s : Symbol) (name : List ℕ) → IsSort symbols s name → token_bytes bytes t ≡ name → sort_named bytes symbols t ≡ Ok s
   unfolding sort_named
   sort_read t s name is text =
       let f : Found = record { symbol = s; arity = 1 } in

@@ -7,3 +7,4 @@ pub mod ItemLaws
 pub mod BindingLaws
 pub mod FormulaLaws
 pub mod FormulaReadLaws
+pub mod DeclarationLaws

@@ -44,9 +44,9 @@ fn sort_if(at: usize, found: Option<Found>) -> Result<Symbol, InputError>
     }
 }
 
-/// The sort that the name stands for.
+/// The sort, or the predicate of one argument, that the name stands for. The fault is Undeclared at the name.
 #[tactic(auto, unfolding(crate::specs::Formulas::sort_named))]
-fn sort_named(text: &Text<'_, '_>, token: Token) -> Result<Symbol, InputError>
+pub fn sort_named(text: &Text<'_, '_>, token: Token) -> Result<Symbol, InputError>
     ensures { Gives (λ s. s) result (sort_named text.now.bytes.now text.now.symbols.now token) }
 {
     let name = spelled_name(text.bytes, token)?;

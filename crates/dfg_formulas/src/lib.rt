@@ -4,9 +4,13 @@
 #![tactic(auto)]
 
 mod build;
+mod declaration;
 mod items;
 mod reader;
 mod shape;
 
+pub use build::sort_atom;
+pub use declaration::term_declaration;
+pub use items::sort_named;
 pub use reader::{Level, Text, formula};
 pub use shape::Shape;

@@ -52,7 +52,7 @@ fn too_deep(shape: Shape, tokens: &mut Cursor<'_>) -> Result<(Formula, u32), Inp
 
 /// An atom whose terms may nest so deep.
 #[tactic(auto, unfolding(crate::specs::Formulas::atom_at))]
-fn atomic(
+pub fn atomic(
     alloc: Global,
     text: &Text<'_, '_>,
     scope: &Scope<'_>,

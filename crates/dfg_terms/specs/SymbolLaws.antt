@@ -44,7 +44,7 @@ spelled_read bytes t name is letters =
     let utf8 : is_utf8 name ≡ true = is_utf8-from_IsUtf8 name (IsUtf8-from_ascii name (letters_ascii name letters)) in
     when_true _ _ _ _ (ap is_utf8 is ∙ utf8) (ap (λ text. Ok text) is)
 
-named_at_number : (ds : List Declared) (i : ℕ) (d : Declared) → AreNamed ds → slice_get ds i ≡ Some d → is_name d.name ≡ true
+pub named_at_number : (ds : List Declared) (i : ℕ) (d : Declared) → AreNamed ds → slice_get ds i ≡ Some d → is_name d.name ≡ true
 named_at_number [] i d all e = absurd cc
 named_at_number (x ∷ ds) zero d all e = let same : x ≡ d = cc in subst (λ (y : Declared). is_name y.name ≡ true) same (and_parts (is_name x.name) (list_all (λ (y : Declared). is_name y.name) ds) all).0
 named_at_number (x ∷ ds) (suc i) d all e = named_at_number ds i d (and_parts (is_name x.name) (list_all (λ (y : Declared). is_name y.name) ds) all).1 e

@@ -19,6 +19,6 @@ pub use marks::{
 };
 pub use numbers::{arity, numeral};
 pub use scope::Scope;
-pub use symbols::{Found, Place, lookup};
+pub use symbols::{Found, Place, check_arity, lookup, symbol_named};
 pub use terms::{atom, term};
 pub use variables::{Context, Variables};
