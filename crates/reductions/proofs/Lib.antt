@@ -1,0 +1,6 @@
+mod Matching
+mod Searching
+mod Members
+mod Folded
+mod Mapping
+mod Stating
