@@ -17,10 +17,11 @@ use Rattle.spl_terms.specs.InOrderLaws.{in_clause, variables-below}
 use Rattle.spl_terms.specs.VariableLaws.{has, itself, has-append-left, has-append-right}
 use Rattle.spl_truth.specs.Truth.{entry}
 use Rattle.spl_truth.specs.EntryLaws.{length-entries_below, entry-entries_below}
-use Rattle.spl_truth.specs.Unifiers.{HaveVariablesBelow, entries_below}
+use Rattle.spl_truth.specs.Unifiers.{occurs, HaveVariablesBelow, entries_below}
 use Rattle.proof_steps.specs.Steps.{without}
 use Rattle.unify.specs.Bindings.{filled}
-use Rattle.unify.specs.Matches.{Agrees}
+use Rattle.unify.specs.Matches.{Agrees, IsFound, FoundOrNot}
+use Rattle.reductions.proofs.Searching.{bound_after}
 use Rattle.reductions.specs.declared.folding.PartAtom.{PartAtom}
 use Rattle.reductions.specs.Folding.{Folds, FoldsSomewhere, in_part, atoms_in_parts, plain, AreMapped, HaveAtomsBelow, AreBoundBelow, AreSought, AreRestored, Searched}
 
@@ -104,10 +105,13 @@ has_atom [] k a is v e = absurd (cc)
 has_atom (x ∷ xs) zero a is v e = (let same : a ≡ x = cc in has-append-left v (atom_variables x) (flat_map atom_variables xs) (ap (λ y. has v (atom_variables y)) (sym same) ∙ e))
 has_atom (x ∷ xs) (suc k) a is v e = has-append-right v (atom_variables x) (flat_map atom_variables xs) (has_atom xs k a is v e)
 
+pub in_order_below : (c : Clause) → IsInOrder c → (part : Part) (k : ℕ) (a : Atom) → slice_get (part_of c part) k ≡ Some a → HaveVariablesBelow (variables c) (atom_terms a)
+in_order_below c o part k a is = All-from_recursion (λ v. v < variables c) (atom_variables a) (all_below (variables c) (atom_variables a) (λ v e. variables-below c o v (in_clause c part v (has_atom (part_of c part) k a is v e))))
+
 pub clause_atoms_below : (c : Clause) → IsInOrder c → (atoms : List (Part × Atom)) → IsPermutation (atoms_in_parts c) atoms → HaveAtomsBelow (variables c) atoms
 clause_atoms_below c o atoms order =
     in_any_order (λ x. HaveVariablesBelow (variables c) (atom_terms x.1)) c atoms order
-    (λ part k a is. All-from_recursion (λ v. v < variables c) (atom_variables a) (all_below (variables c) (atom_variables a) (λ v e. variables-below c o v (in_clause c part v (has_atom (part_of c part) k a is v e)))))
+    (in_order_below c o)
 
 -- ---- mapped without an atom
 
@@ -172,3 +176,16 @@ pub some_part : (g : ℕ → Term) (c : Clause) → FoldsSomewhere g c → (((k 
 some_part g c (Constraint, k, f) = inl (inl (k, f))
 some_part g c (Antecedent, k, f) = inl (inr (k, f))
 some_part g c (Succedent, k, f) = inr (k, f)
+
+-- ---- the answer of one match as entries
+
+pub matched_entries : (vars : ℕ) (asked : (ℕ → Term) → Type 0) (ts : List Term) (start end : ℕ × List (ℕ × Term)) (ok : Bool) (entries : List Term) → start ≡ (vars, []) → ok ≡ true → HaveVariablesBelow vars ts → FoundOrNot asked (λ v. list_any (occurs v) ts) start.1 end.1 ok → entries ≡ entries_below vars (filled end.1) → (length entries ≡ vars) × asked (entry entries)
+matched_entries vars asked ts start end ok entries begins e low h is =
+    let old : FoundOrNot asked (λ v. list_any (occurs v) ts) [] end.1 ok = subst (λ (b : ℕ × List (ℕ × Term)). FoundOrNot asked (λ v. list_any (occurs v) ts) b.1 end.1 ok) begins h in
+    let f : IsFound asked (λ v. list_any (occurs v) ts) [] end.1 = subst (FoundOrNot asked (λ v. list_any (occurs v) ts) [] end.1) e old in
+    let below : AreBoundBelow vars end.1 = bound_after vars vars asked ts [] end.1 ok refl e low old (nothing_bound vars) in
+    (ap length is ∙ length-entries_below vars (filled end.1), subst (λ l. asked (entry l)) (sym is) (f.done (entry (entries_below vars (filled end.1))) (entries_agree vars end.1 below)))
+
+pub nothing_matches : (vars : ℕ) (asked : (ℕ → Term) → Type 0) (inside : ℕ → Bool) (start end : ℕ × List (ℕ × Term)) (ok : Bool) → start ≡ (vars, []) → ok ≡ false → FoundOrNot asked inside start.1 end.1 ok → (g : ℕ → Term) → asked g → ⊥
+nothing_matches vars asked inside start end ok begins e h g x =
+    (subst (FoundOrNot asked inside start.1 end.1) e h) g (subst (λ (b : ℕ × List (ℕ × Term)). Agrees g b.1) (sym begins) (λ v t here. absurd (cc))) x

@@ -105,7 +105,7 @@ module _ (becomes others : (ℕ → Term) → Type 0) (inside : ℕ → Bool) (o
 
 -- ---- one way or the other
 
-turned_same : (turned : Bool) (a b : Atom) → turned_if turned a ≡ b → is_same a b ≡ true
+pub turned_same : (turned : Bool) (a b : Atom) → turned_if turned a ≡ b → is_same a b ≡ true
 turned_same true a b e = subst (λ x. is_same a x ≡ true) e (same_flipped a)
 turned_same false a b e = subst (λ x. is_same a x ≡ true) e (same_self a)
 

@@ -6,7 +6,9 @@
 mod atoms;
 mod condensing;
 mod folding;
+mod matching;
 mod own;
+mod replacing;
 mod trivial;
 mod words;
 

@@ -46,3 +46,20 @@ pub(crate) fn line_from(
         stated,
     })
 }
+
+/// The line of a step with two parents.
+pub(crate) fn line_from_both(
+    alloc: Global,
+    rule: Rule,
+    first: u32,
+    second: u32,
+    stated: Statement,
+) -> Result<Line, AllocError>
+    ensures { IfOk result (λ line. line ≡ record { step = record { rule = rule; parents = first ∷ second ∷ [] }; stated = stated }) }
+{
+    let parents = Items::from_slice(alloc, &[first, second])?;
+    Ok(Line {
+        step: Step { rule, parents },
+        stated,
+    })
+}

@@ -5,7 +5,7 @@ use Rattle.spl_truth.specs.Unifiers.{occurs}
 use Rattle.unify.specs.Matches.{FoundOrNot}
 use Rattle.std.proofs.Common.{◌≡◌}
 use Rattle.reductions.specs.Folding.{turned_if}
-use Rattle.reductions.proofs.Matching.{matched_holds, matched_sides, matched_turned, below_sides}
+use Rattle.reductions.proofs.AtomMatches.{matched_holds, matched_sides, matched_turned, below_sides}
 use Rattle.reductions.proofs.atoms.match_atom.Goals as goal
 
 pub match_both-requires-clause-other : goal.match_both-requires-clause-other

@@ -1,4 +1,4 @@
-use Rattle.reductions.proofs.Matching.{grown_twice, then_found}
+use Rattle.reductions.proofs.AtomMatches.{grown_twice, then_found}
 use Rattle.reductions.proofs.atoms.match_both.Goals as goal
 
 pub returns-in_err-matches-clause-extended : goal.returns-in_err-matches-clause-extended
