@@ -5,4 +5,7 @@ mod Folded
 mod Mapping
 mod Instances
 mod Removing
+mod Judged
+mod Walked
+mod Rewritings
 mod Stating

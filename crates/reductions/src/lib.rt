@@ -6,11 +6,16 @@
 mod atoms;
 mod condensing;
 mod folding;
+mod judging;
 mod matching;
 mod own;
+mod reducing;
 mod replacing;
+mod rewriting;
 mod trivial;
+mod walking;
 mod words;
 
 pub use own::reduce_self;
+pub use reducing::reduce_by;
 pub use trivial::tautology;

@@ -1,4 +1,3 @@
-use Rattle.std.proofs.Common.{ap, sym, ◌∙◌}
 use Rattle.spl_terms.specs.declared.clause.Part.TheVariants.{Succedent}
 use Rattle.reductions.proofs.Stating.{given_some}
 use Rattle.reductions.proofs.Removing.{single_below, before_made, place_within}

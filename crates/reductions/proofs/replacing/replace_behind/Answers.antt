@@ -1,4 +1,3 @@
-use Rattle.std.proofs.Common.{ap, sym, ◌∙◌}
 use Rattle.reductions.proofs.Stating.{given_some}
 use Rattle.reductions.proofs.Removing.{single_below, behind_made, place_within}
 use Rattle.reductions.proofs.replacing.replace_behind.Goals as goal
