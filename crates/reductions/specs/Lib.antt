@@ -1,0 +1,4 @@
+pub mod Lines
+pub mod Folding
+pub mod Matched
+pub mod Rewriting
