@@ -1,0 +1,8 @@
+use Rattle.dfg_problem.specs.ProblemLaws.{written-read, every-read}
+use Rattle.dfg_problem.proofs.reader.read_problem.Goals as goal
+
+pub returns-clause-written : goal.returns-clause-written
+returns-clause-written c = written-read c.args.bytes.now c.new-tokens.result c.problem_within.result c.new-tokens.ensures c.problem_within.ensures
+
+pub returns-clause-every : goal.returns-clause-every
+returns-clause-every c = every-read c.args.bytes.now c.new-tokens.result c.problem_within.result c.new-tokens.ensures c.problem_within.ensures

@@ -1,0 +1,10 @@
+pub mod Keywords
+pub mod Declarations
+pub mod Lists
+pub mod Problems
+pub mod Grammar
+pub mod KeywordLaws
+pub mod DeclaredLaws
+pub mod EntryLaws
+pub mod ListLaws
+pub mod ProblemLaws
