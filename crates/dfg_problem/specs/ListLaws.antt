@@ -51,7 +51,7 @@ role_read Axiom ts rest p = when_true _ _ _ _ (word_next words.Axioms ts rest p)
 role_read Conjecture ts rest p = when_false _ _ _ _ (other_word words.Axioms words.Conjectures ts rest p refl) (when_true _ _ _ _ (word_next words.Conjectures ts rest p) (ap (λ us. Ok (Conjecture, us)) (token_tail _ ts rest p)))
 role_read Clause ts rest p = absurd p
 
-role_keeps : (role : Role) → Keeps (role_word role)
+pub role_keeps : (role : Role) → Keeps (role_word role)
 role_keeps Axiom ts rest p = weaken (word words.Axioms) (word_takes _) ts rest p
 role_keeps Conjecture ts rest p = weaken (word words.Conjectures) (word_takes _) ts rest p
 role_keeps Clause ts rest p = absurd p

@@ -45,7 +45,7 @@ tokens_few_from at zero (b ∷ bytes) =
 tokens_few_from at (suc n) (b ∷ bytes) = omega (arith, tokens_few_from (at + 1) n bytes)
 
 -- each token takes a byte or more, but for the end
-tokens_few : (bytes : List ℕ) → length (tokens bytes) ≤ suc (length bytes)
+pub tokens_few : (bytes : List ℕ) → length (tokens bytes) ≤ suc (length bytes)
 tokens_few bytes = tokens_few_from 0 0 bytes
 
 -- ---- what is read is written so

@@ -1,11 +1,12 @@
 //! Whole problems.
 
-ghost use Rattle.std.specs.Prelude.{◌≡◌, ◌<◌, ◌^◌, length, Ok, IfOk};
+ghost use Rattle.std.specs.Prelude.{◌≡◌, ◌<◌, ◌≤◌, ◌^◌, length, Ok, IfOk};
 ghost use Rattle.dfg_tokens.specs.Cursors.{tail};
 ghost use Rattle.dfg_terms.specs.Reading.{Gives, mark_at};
 ghost use Rattle.dfg_problem.specs.declared.problem.Problem.{Problem};
 ghost use Rattle.dfg_problem.specs.Problems.{problem_at, problem};
 ghost use Rattle.dfg_problem.specs.Grammar.{IsProblem};
+ghost use Rattle.dfg_problem.specs.WellFormed.{AreWellFormed};
 
 use crate::lists::lists;
 use crate::problem::Problem;
@@ -64,13 +65,16 @@ fn problem_within(
 ///
 /// The bytes are fewer than 2^32. The grammar stands apart from reading, as a relation between bytes and problems
 /// (`IsProblem`): what is read is written by the bytes, and each problem that they write is read. So at most one is.
-/// Nothing is read past the `.` of `end_problem.` An error is the first fault from left to right, or want of memory.
+/// Nothing is read past the `.` of `end_problem.` An error is the first fault from left to right, or want of memory. The
+/// formula of each entry is closed, its bindings have numbers of their own, and its symbols are declared.
 #[tactic(auto, unfolding(crate::specs::Problems::problem))]
 pub fn read_problem(alloc: Global, bytes: &[u8]) -> Result<Problem, InputError>
     requires { length bytes.now < 2 ^ 32 }
     ensures exact { Gives (λ p. p) result (problem bytes.now) }
     ensures written { IfOk result (λ p. IsProblem bytes.now p) }
     ensures every { (p : Problem) → IsProblem bytes.now p → Gives (λ q. q) result (Ok p) }
+    ensures well_formed { IfOk result (λ p. AreWellFormed p.signature p.entries) }
+    ensures few { IfOk result (λ p. length p.entries ≤ length bytes.now) }
 {
     let mut tokens = Cursor::new(bytes);
     problem_within(alloc, bytes, &mut tokens)
