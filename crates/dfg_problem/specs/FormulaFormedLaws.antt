@@ -57,13 +57,13 @@ number_among first (suc count) (suc k) h =
 -- ---- formulas where these variables are known and the first binding has this number
 
 module _ (symbols : List Declared) where
-  abbrev pub is_of : Tree → Bool
-  is_of = all_atoms (is_atom_of symbols)
+  abbrev pub atoms_declared : Tree → Bool
+  atoms_declared = all_atoms (is_atom_of symbols)
 
   pub record Fits (known : List ℕ) (first : ℕ) (f : Tree) : Type 0 where
     pub variables : (v : ℕ) → is_free v f ≡ true → is_member v known ≡ true
     pub numbered : IsPermutation (bindings f) (numbers_from first (binding_count f))
-    pub declared : is_of f ≡ true
+    pub declared : atoms_declared f ≡ true
 
   renumbered : (first m n : ℕ) (xs ys : List ℕ) → xs ≡ ys → n ≡ m → IsPermutation ys (numbers_from first m) → IsPermutation xs (numbers_from first n)
   renumbered first m n xs ys e count p = subst (λ k. IsPermutation xs (numbers_from first k)) (sym count) (subst (λ vs. IsPermutation vs (numbers_from first m)) (sym e) p)
@@ -116,14 +116,14 @@ module _ (symbols : List Declared) where
     implies_fits first f g p q = record {
       variables = λ v h. both_known v f g first (first + binding_count f) p q (sym (at_layer (free_step v) (tree.Implies f g) (layer.Implies f g) (rolls-Implies f g)) ∙ h);
       numbered = renumbered first (binding_count f + binding_count g) (binding_count (tree.Implies f g)) (bindings (tree.Implies f g)) (bindings f ++ bindings g) (bindings-Implies f g) (at_layer count_in_layer (tree.Implies f g) (layer.Implies f g) (rolls-Implies f g)) (row_numbered first (binding_count f) (binding_count g) (bindings f) (bindings g) p.numbered q.numbered);
-      declared = at_layer (all_step (is_atom_of symbols)) (tree.Implies f g) (layer.Implies f g) (rolls-Implies f g) ∙ and_from (is_of f) (is_of g) p.declared q.declared;
+      declared = at_layer (all_step (is_atom_of symbols)) (tree.Implies f g) (layer.Implies f g) (rolls-Implies f g) ∙ and_from (atoms_declared f) (atoms_declared g) p.declared q.declared;
     }
 
     pub equiv_fits : (first : ℕ) (f g : Tree) → Fits known first f → Fits known (first + binding_count f) g → Fits known first (tree.Equiv f g)
     equiv_fits first f g p q = record {
       variables = λ v h. both_known v f g first (first + binding_count f) p q (sym (at_layer (free_step v) (tree.Equiv f g) (layer.Equiv f g) (rolls-Equiv f g)) ∙ h);
       numbered = renumbered first (binding_count f + binding_count g) (binding_count (tree.Equiv f g)) (bindings (tree.Equiv f g)) (bindings f ++ bindings g) (bindings-Equiv f g) (at_layer count_in_layer (tree.Equiv f g) (layer.Equiv f g) (rolls-Equiv f g)) (row_numbered first (binding_count f) (binding_count g) (bindings f) (bindings g) p.numbered q.numbered);
-      declared = at_layer (all_step (is_atom_of symbols)) (tree.Equiv f g) (layer.Equiv f g) (rolls-Equiv f g) ∙ and_from (is_of f) (is_of g) p.declared q.declared;
+      declared = at_layer (all_step (is_atom_of symbols)) (tree.Equiv f g) (layer.Equiv f g) (rolls-Equiv f g) ∙ and_from (atoms_declared f) (atoms_declared g) p.declared q.declared;
     }
 
     -- the part that is read last comes first
@@ -133,7 +133,7 @@ module _ (symbols : List Declared) where
       numbered = renumbered first (binding_count f + binding_count g) (binding_count (tree.Implies g f)) (bindings (tree.Implies g f)) (bindings g ++ bindings f) (bindings-Implies g f)
           (let h : binding_count (tree.Implies g f) ≡ binding_count f + binding_count g = omega (arith, at_layer count_in_layer (tree.Implies g f) (layer.Implies g f) (rolls-Implies g f)) in h)
           (IsPermutation-trans (bindings g ++ bindings f) (bindings f ++ bindings g) (numbers_from first (binding_count f + binding_count g)) (IsPermutation-append_comm (bindings g) (bindings f)) (row_numbered first (binding_count f) (binding_count g) (bindings f) (bindings g) p.numbered q.numbered));
-      declared = at_layer (all_step (is_atom_of symbols)) (tree.Implies g f) (layer.Implies g f) (rolls-Implies g f) ∙ and_from (is_of g) (is_of f) q.declared p.declared;
+      declared = at_layer (all_step (is_atom_of symbols)) (tree.Implies g f) (layer.Implies g f) (rolls-Implies g f) ∙ and_from (atoms_declared g) (atoms_declared f) q.declared p.declared;
     }
 
     -- ---- several parts
@@ -141,7 +141,7 @@ module _ (symbols : List Declared) where
     pub record AllFit (first : ℕ) (fs : List Tree) : Type 0 where
       pub variables : (v : ℕ) → list_any (λ b. b) (map (is_free v) fs) ≡ true → is_member v known ≡ true
       pub numbered : IsPermutation (flat_map bindings fs) (numbers_from first (total (map binding_count fs)))
-      pub declared : list_all (λ b. b) (map is_of fs) ≡ true
+      pub declared : list_all (λ b. b) (map atoms_declared fs) ≡ true
 
     pub none_fit : (first : ℕ) → AllFit first []
     none_fit first = record { variables = λ v h. absurd (false≢true h); numbered = IsPermutation-refl []; declared = refl }
@@ -153,7 +153,7 @@ module _ (symbols : List Declared) where
         | inr e ↦ q.variables v e
       ];
       numbered = row_numbered first (binding_count f) (total (map binding_count fs)) (bindings f) (flat_map bindings fs) p.numbered q.numbered;
-      declared = and_from (is_of f) (list_all (λ b. b) (map is_of fs)) p.declared q.declared;
+      declared = and_from (atoms_declared f) (list_all (λ b. b) (map atoms_declared fs)) p.declared q.declared;
     }
 
     pub and_fits : (first : ℕ) (fs : List Tree) → AllFit first fs → Fits known first (tree.And fs)
@@ -172,21 +172,21 @@ module _ (symbols : List Declared) where
 
   -- ---- quantifiers
 
-  abbrev pub one : Bool → ℕ → Tree → Tree
-  one true = tree.Forall
-  one false = tree.Exists
+  abbrev pub quantifier : Bool → ℕ → Tree → Tree
+  quantifier true = tree.Forall
+  quantifier false = tree.Exists
 
-  free-one : (all : Bool) (v x : ℕ) (f : Tree) → is_free v (one all x f) ≡ (not (v == x) && is_free v f)
-  free-one true v x f = at_layer (free_step v) (tree.Forall x f) (layer.Forall x f) (rolls-Forall x f)
-  free-one false v x f = at_layer (free_step v) (tree.Exists x f) (layer.Exists x f) (rolls-Exists x f)
+  free-quantifier : (all : Bool) (v x : ℕ) (f : Tree) → is_free v (quantifier all x f) ≡ (not (v == x) && is_free v f)
+  free-quantifier true v x f = at_layer (free_step v) (tree.Forall x f) (layer.Forall x f) (rolls-Forall x f)
+  free-quantifier false v x f = at_layer (free_step v) (tree.Exists x f) (layer.Exists x f) (rolls-Exists x f)
 
-  count-one : (all : Bool) (x : ℕ) (f : Tree) → binding_count (one all x f) ≡ 1 + binding_count f
-  count-one true x f = at_layer count_in_layer (tree.Forall x f) (layer.Forall x f) (rolls-Forall x f)
-  count-one false x f = at_layer count_in_layer (tree.Exists x f) (layer.Exists x f) (rolls-Exists x f)
+  count-quantifier : (all : Bool) (x : ℕ) (f : Tree) → binding_count (quantifier all x f) ≡ 1 + binding_count f
+  count-quantifier true x f = at_layer count_in_layer (tree.Forall x f) (layer.Forall x f) (rolls-Forall x f)
+  count-quantifier false x f = at_layer count_in_layer (tree.Exists x f) (layer.Exists x f) (rolls-Exists x f)
 
-  of-one : (all : Bool) (x : ℕ) (f : Tree) → is_of (one all x f) ≡ is_of f
-  of-one true x f = at_layer (all_step (is_atom_of symbols)) (tree.Forall x f) (layer.Forall x f) (rolls-Forall x f)
-  of-one false x f = at_layer (all_step (is_atom_of symbols)) (tree.Exists x f) (layer.Exists x f) (rolls-Exists x f)
+  declared-quantifier : (all : Bool) (x : ℕ) (f : Tree) → atoms_declared (quantifier all x f) ≡ atoms_declared f
+  declared-quantifier true x f = at_layer (all_step (is_atom_of symbols)) (tree.Forall x f) (layer.Forall x f) (rolls-Forall x f)
+  declared-quantifier false x f = at_layer (all_step (is_atom_of symbols)) (tree.Exists x f) (layer.Exists x f) (rolls-Exists x f)
 
   bindings-block : (all : Bool) (first count : ℕ) (f : Tree) → bindings (block all first count f) ≡ numbers_from first count ++ bindings f
   bindings-block true first count f = bindings-foralls first count f
@@ -197,7 +197,7 @@ module _ (symbols : List Declared) where
   block-none true first f = refl
   block-none false first f = refl
 
-  block-more : (all : Bool) (first count : ℕ) (f : Tree) → block all first (suc count) f ≡ one all first (block all (suc first) count f)
+  block-more : (all : Bool) (first count : ℕ) (f : Tree) → block all first (suc count) f ≡ quantifier all first (block all (suc first) count f)
   block-more true first count f = refl
   block-more false first count f = refl
 
@@ -205,18 +205,18 @@ module _ (symbols : List Declared) where
   count-block all first zero f = omega (arith, ap binding_count (block-none all first f))
   count-block all first (suc count) f =
       let inner = block all (suc first) count f in
-      omega (arith, ap binding_count (block-more all first count f), count-one all first inner, count-block all (suc first) count f)
+      omega (arith, ap binding_count (block-more all first count f), count-quantifier all first inner, count-block all (suc first) count f)
 
-  of-block : (all : Bool) (first count : ℕ) (f : Tree) → is_of (block all first count f) ≡ is_of f
-  of-block all first zero f = ap is_of (block-none all first f)
-  of-block all first (suc count) f = ap is_of (block-more all first count f) ∙ of-one all first (block all (suc first) count f) ∙ of-block all (suc first) count f
+  declared-block : (all : Bool) (first count : ℕ) (f : Tree) → atoms_declared (block all first count f) ≡ atoms_declared f
+  declared-block all first zero f = ap atoms_declared (block-none all first f)
+  declared-block all first (suc count) f = ap atoms_declared (block-more all first count f) ∙ declared-quantifier all first (block all (suc first) count f) ∙ declared-block all (suc first) count f
 
   -- what is free in it is free in the part, and is none of its variables
   free-block : (all : Bool) (v first count : ℕ) (f : Tree) → is_free v (block all first count f) ≡ true → (is_member v (numbers_from first count) ≡ false) × (is_free v f ≡ true)
   free-block all v first zero f h = (refl, sym (ap (is_free v) (block-none all first f)) ∙ h)
   free-block all v first (suc count) f h =
       let inner = block all (suc first) count f in
-      let both = and_parts (not (v == first)) (is_free v inner) (sym (ap (is_free v) (block-more all first count f) ∙ free-one all v first inner) ∙ h) in
+      let both = and_parts (not (v == first)) (is_free v inner) (sym (ap (is_free v) (block-more all first count f) ∙ free-quantifier all v first inner) ∙ h) in
       let more = free-block all v (suc first) count f both.1 in
       ((λ i. not-true (v == first) both.0 i || more.0 i), more.1)
 
@@ -229,7 +229,7 @@ module _ (symbols : List Declared) where
           | inr m ↦ absurd (false≢true (sym p.0 ∙ m))
         ];
     numbered = renumbered first (count + binding_count f) (binding_count (block all first count f)) (bindings (block all first count f)) (numbers_from first count ++ bindings f) (bindings-block all first count f) (count-block all first count f) (row_numbered known first count (binding_count f) (numbers_from first count) (bindings f) (IsPermutation-refl (numbers_from first count)) fit.numbered);
-    declared = of-block all first count f ∙ fit.declared;
+    declared = declared-block all first count f ∙ fit.declared;
   }
 
   -- ---- sorts of variables

@@ -50,7 +50,8 @@ fn sort_names(
     tokens: &mut Cursor<'_>,
 ) -> Result<Items<Symbol>, InputError>
     ensures { Gives (λ sorts. (sorts, tokens.new)) result
-        (commas (adding (sort_name_at text.now.bytes.now text.now.symbols.now)) (length text.now.bytes.now) [] tokens.old) }
+        (commas (adding (sort_name_at text.now.bytes.now text.now.symbols.now))
+        (length text.now.bytes.now) [] tokens.old) }
 {
     let mut sorts = Items::new(alloc);
     for _ in 0..text.bytes.len() {
@@ -71,7 +72,8 @@ fn sorts_behind(
     text: &Text<'_, '_>,
     tokens: &mut Cursor<'_>,
 ) -> Result<Items<Symbol>, InputError>
-    ensures { Gives (λ sorts. (sorts, tokens.new)) result (sorts_behind text.now.bytes.now text.now.symbols.now tokens.old) }
+    ensures { Gives (λ sorts. (sorts, tokens.new)) result
+        (sorts_behind text.now.bytes.now text.now.symbols.now tokens.old) }
 {
     if next_is_mark(Mark::Comma, tokens) {
         tokens.advance();
@@ -88,7 +90,8 @@ fn sorted_arguments(
     text: &Text<'_, '_>,
     tokens: &mut Cursor<'_>,
 ) -> Result<Formula, InputError>
-    ensures { Gives (λ f. (f, tokens.new)) result (argument_sorts_at text.now.bytes.now text.now.symbols.now tokens.old) }
+    ensures { Gives (λ f. (f, tokens.new)) result
+        (argument_sorts_at text.now.bytes.now text.now.symbols.now tokens.old) }
 {
     mark(Mark::OpenParenthesis, tokens)?;
     let name = name(tokens)?;
@@ -99,7 +102,8 @@ fn sorted_arguments(
     Ok(argument_sorts(alloc, found.symbol, sorts.as_slice())?)
 }
 
-/// A declaration without its `.`, and what it says; the end of the list and three words win over symbols of their names.
+/// A declaration without its `.`, and what it says; the end of the list and three words win over symbols of their
+/// names.
 #[tactic(auto, unfolding(crate::specs::Declarations::declared_at))]
 pub fn declared(
     alloc: Global,

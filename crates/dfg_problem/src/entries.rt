@@ -64,7 +64,8 @@ fn with_label(
     shape: Shape,
     tokens: &mut Cursor<'_>,
 ) -> Result<Formula, InputError>
-    ensures { Gives (λ f. (f, tokens.new)) result (with_label_at text.now.bytes.now text.now.symbols.now shape tokens.old) }
+    ensures { Gives (λ f. (f, tokens.new)) result
+        (with_label_at text.now.bytes.now text.now.symbols.now shape tokens.old) }
 {
     let level = Level { shape, depth: 1000 };
     let mut scope = Scope::new(alloc);
@@ -81,7 +82,8 @@ fn labelled(
     shape: Shape,
     tokens: &mut Cursor<'_>,
 ) -> Result<Formula, InputError>
-    ensures { Gives (λ f. (f, tokens.new)) result (labelled_at text.now.bytes.now text.now.symbols.now shape tokens.old) }
+    ensures { Gives (λ f. (f, tokens.new)) result
+        (labelled_at text.now.bytes.now text.now.symbols.now shape tokens.old) }
 {
     mark(Mark::OpenParenthesis, tokens)?;
     let formula = with_label(alloc, text, shape, tokens)?;

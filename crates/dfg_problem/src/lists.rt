@@ -40,7 +40,8 @@ fn formula_items(
     tokens: &mut Cursor<'_>,
 ) -> Result<(), InputError>
     ensures { Gives (λ _. (entries.new, tokens.new)) result
-        (items Word.EndOfList (formula_item_at text.now.bytes.now text.now.symbols.now role) (length text.now.bytes.now) entries.old tokens.old) }
+        (items Word.EndOfList (formula_item_at text.now.bytes.now text.now.symbols.now role)
+        (length text.now.bytes.now) entries.old tokens.old) }
 {
     for _ in 0..text.bytes.len() {
         if next_is_word(Word::EndOfList, tokens) {
@@ -92,7 +93,8 @@ fn clause_items(
     tokens: &mut Cursor<'_>,
 ) -> Result<(), InputError>
     ensures { Gives (λ _. (entries.new, tokens.new)) result
-        (items Word.EndOfList (clause_item_at text.now.bytes.now text.now.symbols.now) (length text.now.bytes.now) entries.old tokens.old) }
+        (items Word.EndOfList (clause_item_at text.now.bytes.now text.now.symbols.now)
+        (length text.now.bytes.now) entries.old tokens.old) }
 {
     for _ in 0..text.bytes.len() {
         if next_is_word(Word::EndOfList, tokens) {
@@ -135,7 +137,8 @@ fn declaration_items(
     tokens: &mut Cursor<'_>,
 ) -> Result<(), InputError>
     ensures { Gives (λ _. (entries.new, tokens.new)) result
-        (items Word.EndOfList (declaration_item_at text.now.bytes.now text.now.symbols.now) (length text.now.bytes.now) entries.old tokens.old) }
+        (items Word.EndOfList (declaration_item_at text.now.bytes.now text.now.symbols.now)
+        (length text.now.bytes.now) entries.old tokens.old) }
 {
     for _ in 0..text.bytes.len() {
         if next_is_word(Word::EndOfList, tokens) {
@@ -236,7 +239,8 @@ pub fn lists(
     tokens: &mut Cursor<'_>,
 ) -> Result<(), InputError>
     ensures { Gives (λ _. ((entries.new, proofs.new), tokens.new)) result
-        (items Word.EndProblem (list_at text.now.bytes.now text.now.symbols.now) (length text.now.bytes.now) (entries.old, proofs.old) tokens.old) }
+        (items Word.EndProblem (list_at text.now.bytes.now text.now.symbols.now)
+        (length text.now.bytes.now) (entries.old, proofs.old) tokens.old) }
 {
     for _ in 0..text.bytes.len() {
         if next_is_word(Word::EndProblem, tokens) {

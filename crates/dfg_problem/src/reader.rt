@@ -65,8 +65,8 @@ fn problem_within(
 ///
 /// The bytes are fewer than 2^32. The grammar stands apart from reading, as a relation between bytes and problems
 /// (`IsProblem`): what is read is written by the bytes, and each problem that they write is read. So at most one is.
-/// Nothing is read past the `.` of `end_problem.` An error is the first fault from left to right, or want of memory. The
-/// formula of each entry is closed, its bindings have numbers of their own, and its symbols are declared.
+/// Nothing is read past the `.` of `end_problem.` An error is the first fault from left to right, or want of memory.
+/// The formula of each entry is closed, its bindings have numbers of their own, and its symbols are declared.
 #[tactic(auto, unfolding(crate::specs::Problems::problem))]
 pub fn read_problem(alloc: Global, bytes: &[u8]) -> Result<Problem, InputError>
     requires { length bytes.now < 2 ^ 32 }

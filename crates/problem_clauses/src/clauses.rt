@@ -19,21 +19,26 @@ use std::alloc::Global;
 
 /// The clauses of a problem, with its symbols and their Skolem symbols behind them.
 ///
-/// What `read_problem` answers meets the conditions. The clauses stand for the problem's formulas in every finite structure,
-/// a conjecture negated. The refusals are those of `clauses_of`, entry by entry.
+/// What `read_problem` answers meets the conditions. The clauses stand for the problem's formulas in every finite
+/// structure, a conjecture negated. The refusals are those of `clauses_of`, entry by entry.
 pub fn clauses_of_problem(alloc: Global, problem: Problem) -> Result<ClauseSet, FormError>
     requires numbered { length problem.entries < 2 ^ 32 }
     requires well_formed { AreWellFormed problem.signature problem.entries }
-    ensures clauses { IfOk result (λ set. set.clauses ≡ normal_form (length problem.signature) (map entry_formula problem.entries)) }
+    ensures clauses { IfOk result (λ set.
+        set.clauses ≡ normal_form (length problem.signature) (map entry_formula problem.entries)) }
     ensures symbols { IfOk result (λ set. (next : ℕ)
-        × HasSkolems problem.signature 1 (all_arities (length problem.signature) (map entry_formula problem.entries)) set.signature next) }
+        × HasSkolems problem.signature 1
+        (all_arities (length problem.signature) (map entry_formula problem.entries)) set.signature next) }
     ensures origins { IfOk result (λ set. set.origins ≡ origins_from 1 (map entry_formula problem.entries)) }
-    ensures refused { IsRefused (first_refusal 1 0 (length problem.signature) (map entry_formula problem.entries)) result }
+    ensures refused { IsRefused
+        (first_refusal 1 0 (length problem.signature) (map entry_formula problem.entries)) result }
     ensures few { IfOk result (λ set. length set.clauses ≤ 65536) }
-    ensures small { IfOk result (λ set. (k : ℕ) (c : Clause) → slice_get set.clauses k ≡ Some c → clause_symbols c ≤ 4096) }
+    ensures small { IfOk result (λ set. (k : ℕ) (c : Clause)
+        → slice_get set.clauses k ≡ Some c → clause_symbols c ≤ 4096) }
     ensures ordered { IfOk result (λ set. AllByRecursion IsInOrder set.clauses) }
     ensures of_signature { IfOk result (λ set. AreClausesOf set.signature set.clauses) }
-    ensures stand { IfOk result (λ set. StandFor (length problem.signature) set.clauses (map entry_formula problem.entries)) }
+    ensures stand { IfOk result (λ set.
+        StandFor (length problem.signature) set.clauses (map entry_formula problem.entries)) }
 {
     let Problem {
         signature,
