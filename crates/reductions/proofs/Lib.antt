@@ -8,4 +8,5 @@ mod Removing
 mod Judged
 mod Walked
 mod Rewritings
+mod Subsuming
 mod Stating

@@ -6,6 +6,7 @@
 mod atoms;
 mod condensing;
 mod folding;
+mod hiding;
 mod judging;
 mod matching;
 mod own;
@@ -16,6 +17,7 @@ mod trivial;
 mod walking;
 mod words;
 
+pub use hiding::backward;
 pub use own::reduce_self;
 pub use reducing::reduce_by;
 pub use trivial::tautology;
