@@ -6,7 +6,9 @@ mod forms;
 mod pieces;
 mod problems;
 mod proof_lines;
+mod proof_texts;
 mod streams;
+mod texts;
 mod trees;
 mod words;
 
@@ -24,6 +26,11 @@ fn show_text(rt: &HostRuntime, what: &str, text: &str) -> io::Result<()> {
         "clauses" => problems::show_clauses(rt, alloc, bytes),
         "prefixes" => problems::show_prefixes(rt, alloc, bytes),
         "made" => problems::show_made(rt, alloc, text),
+        "read" => texts::show_read(rt, alloc, bytes),
+        "normal form" => texts::show_normal_form(rt, alloc, bytes),
+        "read prefixes" => texts::show_read_prefixes(rt, alloc, bytes),
+        "proof list" => proof_texts::show_proof_list(rt, alloc, bytes),
+        "proof prefixes" => proof_texts::show_proof_prefixes(rt, alloc, bytes),
         "tokens" => words::show_tokens(rt, alloc, bytes),
         "name" => words::show_name(rt, bytes),
         "spelling" => words::show_spelling(rt),

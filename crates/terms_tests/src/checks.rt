@@ -57,6 +57,9 @@ pub fn checked(alloc: Global, row: &Row) -> Result<bool, AllocError> {
             lines.push(line)?;
         }
     }
+    if lines.len() > u32::MAX as usize {
+        return Ok(false);
+    }
     match check(alloc, input.as_slice(), lines.as_slice()) {
         Ok(proof) => Ok(row.text(4) == "accepted" && proof.steps == row.number(3)),
         Err(CheckError::Fault(fault)) => is_fault(alloc, &fault, row),

@@ -1,0 +1,14 @@
+pub mod Keywords
+pub mod Declarations
+pub mod Lists
+pub mod Problems
+pub mod Grammar
+pub mod WellFormed
+pub mod KeywordLaws
+pub mod DeclaredLaws
+pub mod EntryLaws
+pub mod ListLaws
+pub mod ProblemLaws
+pub mod TermFormedLaws
+pub mod FormulaFormedLaws
+pub mod EntryFormedLaws

@@ -1,0 +1,12 @@
+mod AtomMatches
+mod Searching
+mod Members
+mod Folded
+mod Mapping
+mod Instances
+mod Removing
+mod Judged
+mod Walked
+mod Rewritings
+mod Subsuming
+mod Stating

@@ -1,0 +1,5 @@
+pub mod Lines
+pub mod Hidden
+pub mod Folding
+pub mod Matched
+pub mod Rewriting
