@@ -1,5 +1,5 @@
 -- A fault that is moved is the fault of what is moved.
-use Rattle.std.proofs.Common.{◌≡◌, ℕ, Result, ap}
+use Rattle.std.proofs.Common.{ℕ, Result, ap}
 use Rattle.dfg_terms.specs.declared.fault.ReadFault.{ReadFault}
 use Rattle.dfg_terms.specs.declared.fault.InputError.{InputError}
 use Rattle.dfg_terms.specs.declared.fault.InputError.TheVariants as errors

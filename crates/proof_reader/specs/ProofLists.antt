@@ -11,7 +11,6 @@ use Rattle.dep_sets.specs.Assumptions.{is_before}
 use Rattle.proof_steps.specs.declared.step.Rule.{Rule}
 use Rattle.proof_steps.specs.declared.step.Rule.TheVariants.{Input, Resolve, Factor, Paramodulate, Reflex, EqFactor, Assume, CaseLeft, CaseRight, CaseBoth}
 use Rattle.proof_steps.specs.declared.step.Step.{Step}
-use Rattle.proof_steps.specs.declared.step.Statement.{Statement}
 use Rattle.proof_steps.specs.declared.step.Line.{Line}
 use Rattle.dfg_tokens.specs.declared.token.Token.{Token}
 use Rattle.dfg_tokens.specs.declared.piece.Mark.TheVariants.{OpenParenthesis, CloseParenthesis, OpenBracket, CloseBracket, Comma, Dot}
@@ -35,7 +34,9 @@ use Rattle.proof_reader.specs.Spellings.{spelled_at, stray_at, label_at, somethi
 
 -- items in brackets, with commas between them, or nothing in brackets; as many as the count at the most
 unfoldable pub bracketed : {X : Type 0} → (List Token → Result (X × List Token) ReadFault) → ℕ → List Token → Result (List X × List Token) ReadFault
-bracketed read count ts = mark_at OpenBracket ts >>= λ inner. if next_mark CloseBracket inner then Ok ([], tail inner) else (commas (adding read) count [] inner >>= λ x. mark_at CloseBracket x.1 >>= λ rest. Ok (x.0, rest))
+bracketed read count ts = mark_at OpenBracket ts >>= λ inner.
+    if next_mark CloseBracket inner then Ok ([], tail inner)
+    else (commas (adding read) count [] inner >>= λ x. mark_at CloseBracket x.1 >>= λ rest. Ok (x.0, rest))
 
 -- a term nests no deeper than 1,000
 abbrev pub term_of : List ℕ → List Declared → List Token → Result (Term × List Token) ReadFault
@@ -199,7 +200,8 @@ unfoldable pub deps_at : List ℕ → List Token → Result (List Assumption × 
 deps_at bytes ts = do
   labelled ← label_at bytes (codes "dep") ts
   inner ← mark_at OpenBracket labelled
-  if next_mark CloseBracket inner then Ok ([], tail inner) else (commas (adding_assumption bytes) (length bytes) [] inner >>= λ x. mark_at CloseBracket x.1 >>= λ rest. Ok (x.0, rest))
+  if next_mark CloseBracket inner then Ok ([], tail inner)
+      else (commas (adding_assumption bytes) (length bytes) [] inner >>= λ x. mark_at CloseBracket x.1 >>= λ rest. Ok (x.0, rest))
 
 -- ---- lines
 

@@ -67,7 +67,8 @@ fn with_commas(
     bytes: &[u8],
     tokens: &mut Cursor<'_>,
 ) -> Result<Items<Assumption>, InputError>
-    ensures read { Gives (λ x. (x, tokens.new)) result (commas (adding_assumption bytes.now) (length bytes.now) [] tokens.old) }
+    ensures read { Gives (λ x. (x, tokens.new)) result
+        (commas (adding_assumption bytes.now) (length bytes.now) [] tokens.old) }
     ensures ascending { IfOk result (λ x. IsAscending x) }
 {
     let mut found = Items::new(alloc);

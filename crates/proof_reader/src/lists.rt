@@ -34,7 +34,8 @@ fn some_numbers(
     bytes: &[u8],
     tokens: &mut Cursor<'_>,
 ) -> Result<Items<u32>, InputError>
-    ensures { Gives (λ x. (x, tokens.new)) result (commas (adding (numeral_at bytes.now)) (length bytes.now) [] tokens.old) }
+    ensures { Gives (λ x. (x, tokens.new)) result
+        (commas (adding (numeral_at bytes.now)) (length bytes.now) [] tokens.old) }
 {
     let mut items = Items::new(alloc);
     for _ in 0..bytes.len() {

@@ -122,7 +122,8 @@ fn subst_pair<'t>(
     name: &[u8],
     tokens: &mut Cursor<'_>,
 ) -> Result<Subst, InputError>
-    ensures { Gives (λ x. (x, tokens.new)) result (subst_pair text.now.bytes.now text.now.symbols.now name.now tokens.old) }
+    ensures { Gives (λ x. (x, tokens.new)) result
+        (subst_pair text.now.bytes.now text.now.symbols.now name.now tokens.old) }
 {
     label(text.bytes, name, tokens)?;
     let terms = terms(alloc, text, tokens)?;
@@ -131,11 +132,7 @@ fn subst_pair<'t>(
 }
 
 #[tactic(auto, unfolding(crate::specs::ProofLists::path_pair))]
-fn path_pair(
-    alloc: Global,
-    bytes: &[u8],
-    tokens: &mut Cursor<'_>,
-) -> Result<Items<u32>, InputError>
+fn path_pair(alloc: Global, bytes: &[u8], tokens: &mut Cursor<'_>) -> Result<Items<u32>, InputError>
     ensures { Gives (λ x. (x, tokens.new)) result (path_pair bytes.now tokens.old) }
 {
     label(bytes, b"pos", tokens)?;

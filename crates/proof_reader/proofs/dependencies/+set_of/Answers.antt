@@ -1,5 +1,4 @@
-use Rattle.std.proofs.Common.{◌≡◌, ◌++◌, ◌∙◌, ap, sym, subst, take, drop, length, arith, Result, Ok, Err}
-use Rattle.std.proofs.lemmas.List.{take-append-drop}
+use Rattle.std.proofs.Common.{sym, subst, arith}
 use Rattle.dep_sets.specs.Assumptions.{IsAscending}
 use Rattle.proof_reader.proofs.Ascending.{ascending_front, ascending_back}
 use Rattle.proof_reader.proofs.dependencies.+set_of.Goals as goal
