@@ -1,6 +1,6 @@
 -- A clause can be condensed exactly where it is mapped into itself without one of its atoms.
 use Rattle.std.proofs.Common.{◌≡◌, inl, inr, ℕ, ◌+◌, ◌<◌, ◌≤◌, nat_lt, Bool, true, false, List, ◌++◌, length, map, Some, refl, sym, ap, subst, ◌∙◌, arith, length-append}
-use Rattle.std.specs.Prelude.{slice_get, slice_index, option_map}
+use Rattle.std.specs.Prelude.{slice_get, option_map}
 use Rattle.std.proofs.lemmas.Option.{slice_get-map, slice_get_within}
 use Rattle.std.specs.List.{remove}
 use Rattle.std.proofs.lemmas.Bool.{or_cases, or_right, false≢true, ltb-true, ltb-false}
@@ -12,32 +12,23 @@ use Rattle.spl_terms.specs.declared.clause.Part.{Part}
 use Rattle.spl_terms.specs.declared.clause.Part.TheVariants.{Constraint, Antecedent, Succedent}
 use Rattle.spl_terms.specs.declared.clause.Clause.{Clause}
 use Rattle.spl_terms.specs.Terms.{replace}
-use Rattle.spl_terms.specs.Clauses.{atoms_of, at_lists, clause_variables, distinct, firsts, in_order, is_same, number_in, part_of, renumbered, replace_in, replace_in_atom}
+use Rattle.spl_terms.specs.Clauses.{atoms_of, at_lists, distinct, in_order, is_same, number_in, part_of, renumbered, replace_in_atom}
 use Rattle.spl_terms.specs.InOrder.{are_different, IsInOrder}
-use Rattle.spl_terms.specs.InOrderLaws.{distinct-different, renumbered-undone}
+use Rattle.spl_terms.specs.InOrderLaws.{distinct-different}
 use Rattle.spl_terms.specs.ListLaws.{get-there}
 use Rattle.spl_terms.specs.SameLaws.{same_self, same_turned}
 use Rattle.spl_truth.specs.Truth.{entry, apply}
 use Rattle.spl_truth.specs.TruthLaws.{any-remove}
 use Rattle.spl_truth.specs.InstanceLaws.{atom-replace-replace}
 use Rattle.spl_truth.specs.MappingLaws.{maps-apart}
-use Rattle.spl_truth.specs.Redundancy.{Maps, Subsumes}
+use Rattle.spl_truth.specs.Redundancy.{Subsumes}
 use Rattle.proof_steps.specs.Steps.{without}
 use Rattle.reductions.specs.Folding.{Folds, FoldsSomewhere}
 use Rattle.reductions.specs.Lines.{IsCondensed}
+use Rattle.reductions.proofs.Apart.{distinct_part, replaced_part, standing_subsumes}
 use Rattle.reductions.proofs.Members.{among, among_at, among_as, among_each, among_distinct, among_replace, as_many_at_most, instance_there, missing}
 
 -- ---- parts
-
-pub replaced_part : (h : ℕ → Term) (c : Clause) (p : Part) → part_of (replace_in h c) p ≡ map (replace_in_atom h) (part_of c p)
-replaced_part h c Constraint = refl
-replaced_part h c Antecedent = refl
-replaced_part h c Succedent = refl
-
-distinct_part : (c : Clause) (p : Part) → part_of (at_lists distinct c) p ≡ distinct (part_of c p)
-distinct_part c Constraint = refl
-distinct_part c Antecedent = refl
-distinct_part c Succedent = refl
 
 pub length-atoms : (c : Clause) → length (atoms_of c) ≡ length c.constraint + length c.antecedent + length c.succedent
 length-atoms c = length-append (c.constraint ++ c.antecedent) c.succedent ∙ ap (λ n. n + length c.succedent) (length-append c.constraint c.antecedent)
@@ -123,22 +114,10 @@ module _ (e : Clause) (o : IsInOrder e) (s : List Term) (part : Part) (place : �
   pub folded_fewer : length (atoms_of (in_order (apply s e))) < length (atoms_of e)
   folded_fewer = omega (arith, length-renumbered kept, length-atoms kept, length-atoms left, kept_few Constraint, kept_few Antecedent, kept_few Succedent, fewer_left e part place f.there)
 
-  abbrev back : ℕ → Term
-  back v = Var (slice_index (firsts (clause_variables kept)) v)
-
-  back_part : (p : Part) → map (replace_in_atom back) (part_of (renumbered kept) p) ≡ part_of kept p
-  back_part p = sym (replaced_part back (renumbered kept) p) ∙ ap (λ c. part_of c p) (renumbered-undone kept)
-
-  back_maps : (p : Part) → Maps back (part_of (renumbered kept) p) (part_of e p)
-  back_maps p k a is =
-      let there : slice_get (part_of kept p) k ≡ Some (replace_in_atom back a) = ap (λ l. slice_get l k) (sym (back_part p)) ∙ slice_get-map (replace_in_atom back) (part_of (renumbered kept) p) k ∙ ap (option_map (replace_in_atom back)) is in
-      left_among e part place f.there p (replace_in_atom back a) (kept_among p (replace_in_atom back a) (among_at (replace_in_atom back a) (replace_in_atom back a) (part_of kept p) k there (same_self (replace_in_atom back a))))
-
   pub folded_subsumes : Subsumes (in_order (apply s e)) e
-  folded_subsumes = record {
-    by = back;
-    each = λ p. (maps-apart back (part_of (renumbered kept) p) (part_of e p) (o.different p)).1 (back_maps p, ap are_different (back_part p ∙ kept_part p) ∙ distinct-different (map (replace_in_atom (entry s)) (part_of e p)));
-  }
+  folded_subsumes = standing_subsumes (apply s e) e (λ p k b is. (
+      let x = instance_there (replace_in_atom (entry s)) (part_of e p) k b (ap (λ l. slice_get l k) (sym (replaced_part (entry s) e p)) ∙ is) in
+      left_among e part place f.there p b (subst (λ c. among c (part_of left p) ≡ true) x.2 (f.maps p k x.0 x.1))))
 
 -- ---- where it can be condensed, it is mapped so
 

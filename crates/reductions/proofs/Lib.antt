@@ -2,6 +2,11 @@ mod AtomMatches
 mod Searching
 mod Members
 mod Folded
+mod Apart
+mod Paths
+mod Chained
+mod Imaged
+mod Noted
 mod Mapping
 mod Instances
 mod Removing

@@ -38,7 +38,7 @@ use Rattle.reductions.proofs.Stating.{unchanged_entries, unchanged_applied}
 
 -- ---- sides
 
-sides_replaced : (g : ℕ → Term) (right : Bool) (a : Atom) (l r : Term) → sides_of right a ≡ Some (l, r) → sides_of right (replace_in_atom g a) ≡ Some (replace g l, replace g r)
+pub sides_replaced : (g : ℕ → Term) (right : Bool) (a : Atom) (l r : Term) → sides_of right a ≡ Some (l, r) → sides_of right (replace_in_atom g a) ≡ Some (replace g l, replace g r)
 sides_replaced g right (Holds p ts) l r e = absurd (none-some (l, r) e)
 sides_replaced g false (Equal s t) l r e = (let same : (s, t) ≡ (l, r) = same_Some (s, t) (l, r) e in ap (λ (x : Term × Term). Some (replace g x.0, replace g x.1)) same)
 sides_replaced g true (Equal s t) l r e = (let same : (t, s) ≡ (l, r) = same_Some (t, s) (l, r) e in ap (λ (x : Term × Term). Some (replace g x.0, replace g x.1)) same)
@@ -48,7 +48,7 @@ module _ (right : Bool) (d : Clause) (l r : Term) (is : IsEquation right d l r) 
   abbrev made : Clause
   made = joined (without Succedent 0 (apply s d)) (with_term_at spot (replace (entry s) r) e)
 
-  at_spot : paramodulated 0 right spot (apply s d) e ≡ option_and_then (λ u. when (term_eq u (replace (entry s) l)) (in_order made)) (option_and_then (term_under spot.path) (atom_at spot.part spot.place e))
+  pub at_spot : paramodulated 0 right spot (apply s d) e ≡ option_and_then (λ u. when (term_eq u (replace (entry s) l)) (in_order made)) (option_and_then (term_under spot.path) (atom_at spot.part spot.place e))
   at_spot =
       let first : slice_get (apply s d).succedent 0 ≡ Some (replace_in_atom (entry s) is.equation) = ap (λ c. slice_get (apply s c).succedent 0) is.alone in
       ap (λ o. option_and_then (rewritten 0 spot (apply s d) e) (option_and_then (sides_of right) o)) first

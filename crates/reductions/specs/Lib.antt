@@ -3,3 +3,4 @@ pub mod Hidden
 pub mod Folding
 pub mod Matched
 pub mod Rewriting
+pub mod Chains
