@@ -30,8 +30,9 @@ fn place(text: &str) -> Option<usize> {
 }
 
 /// The clause as a premise.
-fn kept(alloc: Global, number: u32, clause: Clause, selected: Option<usize>) -> Kept
-    ensures { result.statement.clause ≡ clause }
+pub(crate) fn kept(alloc: Global, number: u32, clause: Clause, selected: Option<usize>) -> Kept
+    ensures clause { result.statement.clause ≡ clause }
+    ensures number { result.number ≡ number }
 {
     Kept {
         number,

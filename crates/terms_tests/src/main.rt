@@ -10,6 +10,7 @@ mod instances;
 mod notes;
 mod order;
 mod parts;
+mod reducing;
 mod sets;
 mod steps;
 mod subsumption;
@@ -36,7 +37,7 @@ fn is_right_below(alloc: Global, row: &Row) -> Result<bool, AllocError> {
 }
 
 /// Whether a row about the order, unifiers or parts has its answer.
-fn is_right_beside(alloc: Global, row: &Row) -> Result<bool, AllocError> {
+pub(crate) fn is_right_beside(alloc: Global, row: &Row) -> Result<bool, AllocError> {
     match row.text(0) {
         "order" => order::order(alloc, row),
         "heads" => order::heads(alloc, row),
@@ -72,7 +73,7 @@ fn is_right(alloc: Global, row: &Row) -> Result<bool, AllocError> {
         "proof" => steps::proof(alloc, row),
         "check" => checks::checked(alloc, row),
         "hidden" => notes::hidden(alloc, row),
-        _ => is_right_beside(alloc, row),
+        _ => reducing::reduced(alloc, row),
     }
 }
 

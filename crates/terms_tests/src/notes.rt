@@ -56,7 +56,7 @@ fn why(alloc: Global, fields: &Row) -> Result<Why, AllocError> {
 
 /// The clauses of a text in order, with `;` between them, as statements without assumptions.
 #[tactic(auto, using(crate::proofs::Stated::one_more))]
-fn stated(alloc: Global, text: &str) -> Result<Vec<Statement>, AllocError>
+pub(crate) fn stated(alloc: Global, text: &str) -> Result<Vec<Statement>, AllocError>
     ensures { IfOk result (λ made. AreStatedInOrder made.items) }
 {
     let mut made = Vec::new(alloc);
